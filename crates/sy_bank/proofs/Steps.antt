@@ -6,7 +6,7 @@ use Rattle.sy_terms.specs.Fitting.{Scope}
 use Rattle.sy_grammar_base.specs.Trees.{Syntax}
 use Rattle.sy_bank_level.specs.Banks.{Entry, Merged}
 use Rattle.sy_bank_level.specs.Filling.{World, LevelState, IsSteady, IsBeyond}
-use Rattle.sy_bank_level.specs.declared.table.Place.{Place}
+use Rattle.sy_bank_level.specs.declared.place.Place.{Place}
 use Rattle.sy_bank_level.specs.Indexed.{IsIndexed}
 use Rattle.sy_bank_level.specs.Ready.{BankIsReady}
 use Rattle.sy_bank_level.specs.Tried.{IsFilled}

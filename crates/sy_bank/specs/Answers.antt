@@ -6,7 +6,7 @@ use Rattle.sy_terms.specs.Fitting.{Scope}
 use Rattle.sy_grammar_base.specs.Trees.{Syntax}
 use Rattle.sy_bank_level.specs.Banks.{Entry, Merged}
 use Rattle.sy_bank_level.specs.Stored.{entry_of}
-use Rattle.sy_bank_level.specs.Places.{places_of}
+use Rattle.sy_seq.specs.Buckets.{values_for}
 use Rattle.sy_bank_level.specs.Indexed.{IsIndexed}
 use Rattle.sy_bank_level.specs.Ready.{BankIsReady}
 use Rattle.sy_bank_level.specs.Bank.{merged_of}
@@ -29,4 +29,4 @@ IfFull number (Err Want) fact = Unit {0}
 -- a bank as building leaves it, to which the kept terms of further sizes can be added
 pub record BankIsBuilt {T N : Type 0} (number : N → Val) (scope : Scope) (syntax : Syntax) (defined : List Function) (pool : List Val) (bank : Bank T N) : Type 0 where
   pub ready : BankIsReady scope syntax defined pool (merged_of number bank)
-  pub indexed : IsIndexed (merged_of number bank).levels (places_of bank.table) bank.count
+  pub indexed : IsIndexed (merged_of number bank).levels (values_for bank.table) bank.count

@@ -14,20 +14,10 @@ ghost use Rattle.sy_bank.specs.Promised.{IsBank, BankIsWhole, BankIsFull, Stays}
 use crate::bank::BankEnd;
 use crate::growing::all_sizes;
 use std::alloc::Global;
-use sy_bank_level::{Bank, Table};
+use sy_bank_level::Bank;
 use sy_grammar_base::Grammar;
-use sy_terms::{Defs, Seq, Theory, Values, Want, copied_values};
-
-/// The same points, in memory of their own.
-fn copied_points<T: Theory>(alloc: Global, points: &[Values<T>]) -> Result<Seq<Values<T>>, Want>
-    ensures { IfOk result (λ copy. copy ≡ points.now) }
-{
-    let mut copy = Seq::new(alloc);
-    for point in points {
-        copy.push(copied_values::<T>(alloc, point.as_slice())?)?;
-    }
-    Ok(copy)
-}
+use sy_seq::Buckets;
+use sy_terms::{Defs, Seq, Theory, Values, Want, copied_tuples};
 
 /// A bank of the terms of derivations up to this size, over these points, of at most `cap` kept terms. Where none was
 /// dropped, each yield of such a derivation is computable at all points, and its row is that of a kept term of its
@@ -55,10 +45,10 @@ pub fn build<T: Theory>(
         (syntax_from T.denotes grammar.now) (functions (bodies T.denotes defs.now)) (vals_of T.denotes pool.now)) }
 {
     let bank = Bank {
-        points: copied_points::<T>(alloc, points.as_slice())?,
+        points: copied_tuples::<T>(alloc, points.as_slice())?,
         upto,
         levels: Vec::new(alloc),
-        table: Table::new(alloc),
+        table: Buckets::new(alloc),
         count: 0,
         dropped: None,
     };

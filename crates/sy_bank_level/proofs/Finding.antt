@@ -5,7 +5,7 @@ use Rattle.std.proofs.lemmas.Option.{none-some, same_Some}
 use Rattle.sy_terms.specs.Values.{Val}
 use Rattle.sy_bank_level.specs.Banks.{Entry}
 use Rattle.sy_bank_level.specs.Filling.{RowIsThere, AreOther}
-use Rattle.sy_bank_level.specs.declared.table.Place.{Place}
+use Rattle.sy_bank_level.specs.declared.place.Place.{Place}
 
 split-take : {X : Type 0} (xs : List X) (i j : ℕ) (x : X) → slice_get (take (suc i) xs) j ≡ Some x → (slice_get (take i xs) j ≡ Some x) ⊎ (slice_get xs i ≡ Some x)
 split-take [] i j x at = absurd (none-some x at)

@@ -1,14 +1,12 @@
--- The number of a row with one value more, and tables with one place more.
-use Rattle.std.proofs.Common.{◌≡◌, ℕ, zero, suc, ◌+◌, ◌<◌, ◌≤◌, List, [], ◌∷◌, ◌++◌, length, refl, ap, sym, ◌∙◌, Some, slice_get, get_or, set, map, arith, replicate, Bool, true, false}
-use Rattle.std.specs.Prelude.{slice_index_or, slice_set, drop, nat_eq, if◌then◌else◌}
-use Rattle.std.proofs.lemmas.Bool.{eq-eqb}
+-- The number of a row with one value more, and kept lists with one item more.
+use Rattle.std.proofs.Common.{◌≡◌, ℕ, zero, suc, ◌+◌, ◌<◌, ◌≤◌, List, [], ◌∷◌, ◌++◌, length, refl, ap, sym, ◌∙◌, get_or, set, map, arith, replicate}
+use Rattle.std.specs.Prelude.{slice_index_or, slice_set, drop}
 use Rattle.std.proofs.lemmas.List.{drop_more, drop_all}
-use Rattle.std.proofs.lemmas.Option.{none-some}
 use Rattle.sy_terms.specs.Values.{Val}
 use Rattle.sy_terms.specs.Denoted.{val_of, vals_of}
 use Rattle.sy_terms.specs.declared.sort.Value.{Value}
-use Rattle.sy_bank_level.specs.Hashing.{hash_from, lanes, mixed, code, HasPlace, PlaceIsAdded}
-use Rattle.sy_bank_level.specs.declared.table.Place.{Place}
+use Rattle.sy_seq.specs.Mixing.{mixed}
+use Rattle.sy_bank_level.specs.Hashing.{hash_from, lanes, code}
 
 -- the lanes before the first value, before another, and after the last one
 pub lanes-first : {N : Type 0} (number : N → Val) (seed : ℕ) (row : List (Value N)) → hash_from seed (vals_of number row) ≡ lanes seed 0 0 (vals_of number (drop 0 row))
@@ -26,28 +24,6 @@ pub lanes-last : {N : Type 0} (number : N → Val) (first second third : ℕ) (r
     lanes first second third (vals_of number (drop i row)) ≡ mixed (mixed first second) third
 unfolding lanes
 lanes-last number first second third row i beyond = ap (λ rest. lanes first second third (vals_of number rest)) (drop_all i row beyond)
-
--- the places for numbers, with one place more
-end : {X : Type 0} (xs : List X) (x : X) → slice_get (xs ++ x ∷ []) (length xs) ≡ Some x
-end [] x = refl
-end (y ∷ xs) x = end xs x
-
-front : {X : Type 0} (xs : List X) (x y : X) (i : ℕ) → slice_get xs i ≡ Some y → slice_get (xs ++ x ∷ []) i ≡ Some y
-front [] x y i at = absurd (none-some y at)
-front (z ∷ xs) x y zero at = at
-front (z ∷ xs) x y (suc i) at = front xs x y i at
-
-pub has-added : (before after : ℕ → List Place) (hash : ℕ) (place : Place) → PlaceIsAdded before hash place after → HasPlace after hash place
-has-added before after hash place added =
-    (length (before hash), ap (λ (list : List Place). slice_get list (length (before hash))) (added hash ∙ ap (λ (b : Bool). if b then before hash ++ place ∷ [] else before hash) (eq-eqb hash hash refl)) ∙ end (before hash) place)
-
-or-more : (b : Bool) (xs : List Place) (place other : Place) (i : ℕ) → slice_get xs i ≡ Some other → slice_get (if b then xs ++ place ∷ [] else xs) i ≡ Some other
-or-more true xs place other i at = front xs place other i at
-or-more false xs place other i at = at
-
-pub still-has : (before after : ℕ → List Place) (hash number : ℕ) (place other : Place) → PlaceIsAdded before hash place after → HasPlace before number other → HasPlace after number other
-still-has before after hash number place other added has =
-    (has.0, ap (λ (list : List Place). slice_get list has.0) (added number) ∙ or-more (nat_eq hash number) (before number) place other has.0 has.1)
 
 -- lists by what they are kept as, with one item more in one of them
 set-view : {X Y : Type 0} (f : X → List Y) (xs : List X) (n : ℕ) (x : X) → map f (set xs n x) ≡ slice_set (map f xs) n (f x)

@@ -2,10 +2,11 @@
 use Rattle.std.proofs.Common.{◌≡◌, ℕ, ◌+◌, ◌<◌, List, [], length, refl, ap, sym, ◌∙◌, Some, slice_get, arith, subst, inl, inr}
 use Rattle.std.specs.Prelude.{slice_index_or}
 use Rattle.sy_bank_level.specs.Banks.{Entry, Lost, kept_at, IsKept, IsDropped}
-use Rattle.sy_bank_level.specs.Hashing.{hash_from, PlaceIsAdded}
+use Rattle.sy_seq.specs.Buckets.{ValueIsAdded}
+use Rattle.sy_bank_level.specs.Hashing.{hash_from}
 use Rattle.sy_bank_level.specs.Filling.{World, LevelState, all_levels, EntryIsRight, IsNewRow, IsSteady, LevelGrows, TermIsDone}
-use Rattle.sy_bank_level.specs.declared.table.Place.{Place}
-use Rattle.sy_bank_level.proofs.Hashes.{has-added, still-has}
+use Rattle.sy_bank_level.specs.declared.place.Place.{Place}
+use Rattle.sy_seq.proofs.Found.{has-added, still-has}
 use Rattle.sy_bank_level.proofs.KeptLaws.{pushed, at-last, still-last, new-pushed, wide-pushed, count-last, kept_at-last}
 
 -- the state with the term kept, and with another table
@@ -19,7 +20,7 @@ is-kept : (w : World) (s : LevelState) (n size i : ℕ) (e : Entry) → slice_ge
 is-kept w s n size i e at = record { size = size; place = i; at = at }
 
 pub keeps : (w : World) (s : LevelState) (m : ℕ) (x : Entry) (table : (ℕ → List Place)) → IsSteady w s → EntryIsRight w m (length w.levels) x → IsNewRow w s m x.row → m < length s.fresh →
-    PlaceIsAdded s.table (hash_from m x.row) (place_of w s m) table → s.count < w.cap → IsSteady w (after s m x table)
+    ValueIsAdded s.table (hash_from m x.row) (place_of w s m) table → s.count < w.cap → IsSteady w (after s m x table)
 keeps w s m x table steady right new within added room = record {
   wide = wide-pushed s.fresh m x ∙ steady.wide;
   each = λ n size i e at. elim (at-last w.levels s.fresh m n size i x e at) [
@@ -90,5 +91,5 @@ done-on w s t n size term grows done none_lost =
 
 -- a place by its parts
 pub added-as : (w : World) (s : LevelState) (m : ℕ) (x : Entry) (hash size index : ℕ) (table : (ℕ → List Place)) → size ≡ length w.levels → index ≡ length (slice_index_or s.fresh m []) → hash ≡ hash_from m x.row →
-    PlaceIsAdded s.table hash (record { nonterminal = m; size = size; index = index }) table → PlaceIsAdded s.table (hash_from m x.row) (place_of w s m) table
+    ValueIsAdded s.table hash (record { nonterminal = m; size = size; index = index }) table → ValueIsAdded s.table (hash_from m x.row) (place_of w s m) table
 added-as w s m x hash size index table one two three added = rw (← one, ← two, ← three) added

@@ -10,7 +10,7 @@ use Rattle.sy_grammar_base.specs.Trees.{Syntax, rule_at}
 use Rattle.sy_bank_level.specs.Banks.{Entry, Lost, Merged, kept_at, IsHonestBank, IsDropped, IsNewEntry}
 use Rattle.sy_bank_level.specs.Covering.{IsCovered, Covers, Offers}
 use Rattle.sy_bank_level.specs.Filling.{World, LevelState, all_levels, IsSteady, IsBeyond}
-use Rattle.sy_bank_level.specs.declared.table.Place.{Place}
+use Rattle.sy_bank_level.specs.declared.place.Place.{Place}
 use Rattle.sy_bank_level.proofs.Beginnings.{kept_at-idle, count-idle}
 use Rattle.sy_bank_level.proofs.KeptLaws.{size-within}
 use Rattle.sy_bank_level.proofs.Coverage.{saturated_covers}

@@ -8,8 +8,9 @@ use Rattle.sy_grammar_base.specs.Trees.{Syntax}
 use Rattle.sy_bank_level.specs.Banks.{Entry, Lost, kept_at, kept_count, IsKept, EntryIsSound, IsDropped}
 use Rattle.sy_bank_level.specs.Covering.{IsCovered}
 use Rattle.sy_bank_level.specs.Columns.{HasRow}
-use Rattle.sy_bank_level.specs.Hashing.{HasPlace, hash_from}
-use Rattle.sy_bank_level.specs.declared.table.Place.{Place}
+use Rattle.sy_seq.specs.Buckets.{HasValue}
+use Rattle.sy_bank_level.specs.Hashing.{hash_from}
+use Rattle.sy_bank_level.specs.declared.place.Place.{Place}
 
 -- what stays the same: the grammar, the definitions, the pool, the points, the kept terms of lesser sizes, and the cap
 pub record World : Type 0 where
@@ -50,7 +51,7 @@ pub record IsSteady (world : World) (state : LevelState) : Type 0 where
       slice_get (kept_at (all_levels world state) nonterminal m) i ≡ Some first → slice_get (kept_at (all_levels world state) nonterminal n) j ≡ Some second →
       first.row ≡ second.row → (m ≡ n) × (i ≡ j)
   pub placed : (nonterminal size place : ℕ) (entry : Entry) → slice_get (kept_at (all_levels world state) nonterminal size) place ≡ Some entry →
-      HasPlace state.table (hash_from nonterminal entry.row) (record { nonterminal = nonterminal; size = size; index = place })
+      HasValue state.table (hash_from nonterminal entry.row) (record { nonterminal = nonterminal; size = size; index = place })
   pub counted : kept_count (all_levels world state) ≡ state.count
   pub within : state.count ≤ world.cap
   pub lost : IfSome state.dropped (IsDropped world.syntax world.defined world.pool world.points (length world.levels))

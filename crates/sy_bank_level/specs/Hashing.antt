@@ -1,8 +1,8 @@
 -- Numbers by which rows are found.
-use Rattle.std.specs.Prelude.{ℕ, ◌+◌, ◌-◌, ◌*◌, ◌/◌, ◌%◌, ◌^◌, ◌≡◌, List, [], ◌∷◌, ◌++◌, slice_get, nat_eq, bit_xor, if◌then◌else◌, Some}
+use Rattle.std.specs.Prelude.{ℕ, ◌+◌, ◌-◌, ◌*◌, ◌/◌, ◌%◌, ◌^◌, List, [], ◌∷◌, bit_xor, if◌then◌else◌}
+use Rattle.sy_seq.specs.Mixing.{mixed}
 use Rattle.sy_terms.specs.Values.{Val, Truth, Whole, Bits}
 use Rattle.sy_grammar_base.specs.Trees.{value_magnitude, is_negative}
-use Rattle.sy_bank_level.specs.declared.table.Place.{Place}
 
 -- the upper half of 64 bits, laid over the lower one
 abbrev pub halves_folded : ℕ → ℕ
@@ -14,10 +14,6 @@ code (Truth truth) = if truth then 1 else 0
 code (Whole number) = if is_negative (Whole number) then 2 ^ 64 - 1 - halves_folded (value_magnitude (Whole number)) else halves_folded (value_magnitude (Whole number))
 code (Bits width number) = halves_folded number
 
--- a number for two numbers
-abbrev pub mixed : ℕ → ℕ → ℕ
-mixed seed code = ((seed * 11400714819323198485) % 2 ^ 64 + code) % 2 ^ 64
-
 -- with these values more, the next of which is mixed into the first of three numbers
 unfoldable pub lanes : ℕ → ℕ → ℕ → List Val → ℕ
 lanes first second third [] = mixed (mixed first second) third
@@ -26,11 +22,3 @@ lanes first second third (value ∷ values) = lanes second third (mixed first (c
 -- a number for a seed and a row
 unfoldable pub hash_from : ℕ → List Val → ℕ
 hash_from seed row = lanes seed 0 0 row
-
--- the place is one of those for the number
-abbrev pub HasPlace : (ℕ → List Place) → ℕ → Place → Type 0
-HasPlace table hash place = (i : ℕ) × (slice_get (table hash) i ≡ Some place)
-
--- the place is added for the number, after the others; nothing else changes
-abbrev pub PlaceIsAdded : (ℕ → List Place) → ℕ → Place → (ℕ → List Place) → Type 0
-PlaceIsAdded before hash place after = (number : ℕ) → after number ≡ (if nat_eq hash number then before number ++ place ∷ [] else before number)

@@ -6,7 +6,6 @@ pub mod Covering
 pub mod Filling
 pub mod Hashing
 pub mod Indexed
-pub mod Places
 pub mod Ready
 pub mod Rows
 pub mod Shared

@@ -9,7 +9,7 @@ use Rattle.sy_terms.specs.declared.op.Op.{Op}
 use Rattle.sy_grammar_base.specs.Grown.{syntax_from}
 use Rattle.sy_bank_level.specs.Banks.{Entry}
 use Rattle.sy_bank_level.specs.Stored.{entry_of, entries_of, lost_of}
-use Rattle.sy_bank_level.specs.Places.{places_of}
+use Rattle.sy_seq.specs.Buckets.{values_for}
 use Rattle.sy_bank_level.specs.Filling.{World, LevelState, IsSteady, IsBeyond}
 use Rattle.sy_bank_level.specs.declared.task.Task.{Task}
 use Rattle.sy_bank_level.specs.declared.level.Level.{Level}
@@ -25,7 +25,7 @@ abbrev pub levels_of : {T N : Type 0} → (N → Val) → List (Level T N) → L
 levels_of number levels = map (level_of number) levels
 
 abbrev pub level_state_of : {T N : Type 0} → (N → Val) → Filling T N → LevelState
-level_state_of number filling = record { fresh = level_of number filling.fresh; table = places_of filling.table; count = filling.count; dropped = option_map (lost_of number) filling.dropped }
+level_state_of number filling = record { fresh = level_of number filling.fresh; table = values_for filling.table; count = filling.count; dropped = option_map (lost_of number) filling.dropped }
 
 abbrev pub world : {T N : Type 0} → (Op → Bool) → (N → Val) → Task T N → World
 world owned number task = record {

@@ -8,7 +8,8 @@ ghost use Rattle.sy_bank_level.specs.Bank.{merged_of};
 
 use crate::kept::{Dropped, Kept};
 use crate::level::Level;
-use crate::table::Table;
+use crate::place::Place;
+use sy_seq::Buckets;
 use sy_terms::{Seq, Theory, Values};
 
 /// The kept terms of a grammar up to a size, by size and nonterminal, at most one for each row of values at the
@@ -19,7 +20,7 @@ pub struct Bank<T: Theory> {
     pub points: Seq<Values<T>>,
     pub upto: u32,
     pub levels: Vec<Level<T>>,
-    pub table: Table,
+    pub table: Buckets<Place>,
     pub count: usize,
     pub dropped: Option<Dropped<T>>,
 }

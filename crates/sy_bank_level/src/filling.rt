@@ -20,7 +20,7 @@ ghost use Rattle.sy_terms.specs.Denoted.{vals_of};
 ghost use Rattle.sy_bank_level.specs.Banks.{Entry, IsKept, IsDropped, kept_at};
 ghost use Rattle.sy_bank_level.specs.Stored.{entry_of, lost_of};
 ghost use Rattle.sy_bank_level.specs.Hashing.{hash_from};
-ghost use Rattle.sy_bank_level.specs.Places.{places_of};
+ghost use Rattle.sy_seq.specs.Buckets.{values_for};
 ghost use Rattle.sy_bank_level.specs.Filling.{
   IsSteady,
   EntryIsRight,
@@ -34,10 +34,11 @@ ghost use Rattle.sy_bank_level.specs.Task.{world, IsStop, level_of, levels_of, l
 
 use crate::kept::{Dropped, Kept};
 use crate::level::Level;
+use crate::place::Place;
 use crate::rows::same_rows;
-use crate::table::{Place, Table};
 use crate::task::Task;
 use std::alloc::AllocFailed;
+use sy_seq::Buckets;
 use sy_terms::{Theory, Value, Want};
 
 /// Why no more terms are looked for.
@@ -75,7 +76,7 @@ impl<X: Drop, T: Theory> From<AllocFailed<X>> for Stop<T> {
 #[derive(Drop)]
 pub struct Filling<T: Theory> {
     pub fresh: Level<T>,
-    pub table: Table,
+    pub table: Buckets<Place>,
     pub count: usize,
     pub dropped: Option<Dropped<T>>,
 }
@@ -129,7 +130,7 @@ impl<T: Theory> Filling<T> {
             ((entry : Entry) × IsKept (levels_of T.denotes levels.now ++
             level_of T.denotes self.now.fresh ∷ []) nonterminal entry × (entry.row ≡ vals_of T.denotes row.now))
             (AreOther (levels_of T.denotes levels.now ++ level_of T.denotes self.now.fresh ∷
-            []) nonterminal (places_of self.now.table hash) (vals_of T.denotes row.now)) }
+            []) nonterminal (values_for self.now.table hash) (vals_of T.denotes row.now)) }
     {
         let Some(first) = self.table.first(hash) else {
             return false;

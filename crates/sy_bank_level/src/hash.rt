@@ -4,6 +4,7 @@ ghost use Rattle.sy_terms.specs.Denoted.{val_of, vals_of};
 ghost use Rattle.sy_bank_level.specs.Hashing as spec;
 ghost use Rattle.sy_bank_level.specs.Hashing.{hash_from};
 
+use sy_seq::mix;
 use sy_terms::{Theory, Value};
 
 /// The upper half of the number's last 64 bits, laid over the lower one.
@@ -28,13 +29,6 @@ fn code<T: Theory>(value: &Value<T::Num>) -> u64
     }
 }
 
-/// A number for both numbers.
-fn mixed(seed: u64, code: u64) -> u64
-    ensures { result ≡ spec.mixed seed code }
-{
-    seed.wrapping_mul(11400714819323198485).wrapping_add(code)
-}
-
 /// A number for the nonterminal and the row.
 pub fn row_hash<T: Theory>(nonterminal: u32, row: &[Value<T::Num>]) -> u64
     ensures { result ≡ hash_from nonterminal (vals_of T.denotes row.now) }
@@ -44,10 +38,10 @@ pub fn row_hash<T: Theory>(nonterminal: u32, row: &[Value<T::Num>]) -> u64
     let mut second = 0;
     let mut third = 0;
     for value in row {
-        let next = mixed(first, code::<T>(value));
+        let next = mix(first, code::<T>(value));
         first = second;
         second = third;
         third = next;
     }
-    mixed(mixed(first, second), third)
+    mix(mix(first, second), third)
 }

@@ -10,8 +10,8 @@ mod hash;
 mod kept;
 mod level;
 mod occurrences;
+mod place;
 mod rows;
-mod table;
 mod task;
 
 pub use bank::Bank;
@@ -22,5 +22,5 @@ pub use hash::row_hash;
 pub use kept::{Dropped, Kept};
 pub use level::Level;
 pub use occurrences::places;
-pub use table::{Place, Table};
+pub use place::Place;
 pub use task::Task;

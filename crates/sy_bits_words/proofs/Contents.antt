@@ -4,7 +4,7 @@ use Rattle.std.specs.Prelude.{drop}
 use Rattle.std.proofs.lemmas.List.{length-map, drop_more, drop_all}
 use Rattle.sy_bits_sums.specs.declared.monomial.Monomial.{Monomial}
 use Rattle.sy_bits_sums.specs.Polynomials.{product, monomial_value, total}
-use Rattle.sy_bits_words.specs.Mixing.{mixed_number}
+use Rattle.sy_seq.specs.Mixing.{mixed}
 use Rattle.sy_bits_words.specs.Sums.{monomial_content, places_key, key_of_monomial, monomials_key}
 
 -- what is left of two lists stands for the same exactly where the whole lists do
@@ -42,7 +42,7 @@ same-length f xs ys same = sym (length-map xs f) ∙ ap length same ∙ length-m
 
 -- keys
 
-pub place-next : (key : ℕ) (places : List ℕ) (i : ℕ) → i < length places → places_key key (drop i places) ≡ places_key (mixed_number key (get_or places i 0)) (drop (i + 1) places)
+pub place-next : (key : ℕ) (places : List ℕ) (i : ℕ) → i < length places → places_key key (drop i places) ≡ places_key (mixed key (get_or places i 0)) (drop (i + 1) places)
 unfolding places_key
 place-next key places i within = ap (places_key key) (drop_more places i 0 within)
 

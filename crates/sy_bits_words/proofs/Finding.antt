@@ -1,48 +1,25 @@
 -- Keys of words, and tables in which each place is found by a key of what stands there.
 use Rattle.std.proofs.Common.{◌≡◌, ℕ, zero, suc, ◌+◌, ◌<◌, ◌≤◌, Bool, true, false, List, [], ◌∷◌, ◌++◌, length, slice_get, get_or, take, Some, None, arith, refl, ap, sym, subst, ◌∙◌, inl, inr, ◌⊎◌}
-use Rattle.std.specs.Prelude.{drop, nat_eq, if◌then◌else◌}
-use Rattle.std.proofs.lemmas.Bool.{eq-eqb}
+use Rattle.std.specs.Prelude.{drop}
 use Rattle.std.proofs.lemmas.List.{drop_more, drop_all}
 use Rattle.std.proofs.lemmas.Option.{none-some, same_Some}
 use Rattle.sy_gates.specs.declared.gate.Bit.{Bit}
 use Rattle.sy_gates.specs.declared.gate.Bit.TheVariants.{Fixed}
 use Rattle.sy_bits_words.specs.declared.known.Known.{Known}
-use Rattle.sy_bits_words.specs.Places.{HasPlace, PlaceIsAdded}
-use Rattle.sy_bits_words.specs.Mixing.{mixed_number}
+use Rattle.sy_seq.specs.Buckets.{HasValue, ValueIsAdded}
+use Rattle.sy_seq.proofs.Found.{has-added, still-has}
+use Rattle.sy_seq.specs.Mixing.{mixed}
 use Rattle.sy_bits_words.specs.Finding.{bit_code, bits_key}
 
 -- keys
 
-pub bits-next : (key : ℕ) (word : List Bit) (i : ℕ) → i < length word → bits_key key (drop i word) ≡ bits_key (mixed_number key (bit_code (get_or word i (Fixed false)))) (drop (i + 1) word)
+pub bits-next : (key : ℕ) (word : List Bit) (i : ℕ) → i < length word → bits_key key (drop i word) ≡ bits_key (mixed key (bit_code (get_or word i (Fixed false)))) (drop (i + 1) word)
 unfolding bits_key
 bits-next key word i within = ap (bits_key key) (drop_more word i (Fixed false) within)
 
 pub bits-last : (key : ℕ) (word : List Bit) (i : ℕ) → length word ≤ i → bits_key key (drop i word) ≡ key
 unfolding bits_key
 bits-last key word i beyond = ap (bits_key key) (drop_all i word beyond)
-
--- the places for keys, with one place more
-
-end : {X : Type 0} (xs : List X) (x : X) → slice_get (xs ++ x ∷ []) (length xs) ≡ Some x
-end [] x = refl
-end (y ∷ xs) x = end xs x
-
-front : {X : Type 0} (xs : List X) (x y : X) (i : ℕ) → slice_get xs i ≡ Some y → slice_get (xs ++ x ∷ []) i ≡ Some y
-front [] x y i at = absurd (none-some y at)
-front (z ∷ xs) x y zero at = at
-front (z ∷ xs) x y (suc i) at = front xs x y i at
-
-has-added : (before after : ℕ → List ℕ) (key place : ℕ) → PlaceIsAdded before key place after → HasPlace after key place
-has-added before after key place added =
-    (length (before key), ap (λ (list : List ℕ). slice_get list (length (before key))) (added key ∙ ap (λ (b : Bool). if b then before key ++ place ∷ [] else before key) (eq-eqb key key refl)) ∙ end (before key) place)
-
-or-more : (b : Bool) (xs : List ℕ) (place other i : ℕ) → slice_get xs i ≡ Some other → slice_get (if b then xs ++ place ∷ [] else xs) i ≡ Some other
-or-more true xs place other i at = front xs place other i at
-or-more false xs place other i at = at
-
-still-has : (before after : ℕ → List ℕ) (key number place other : ℕ) → PlaceIsAdded before key place after → HasPlace before number other → HasPlace after number other
-still-has before after key number place other added has =
-    (has.0, ap (λ (list : List ℕ). slice_get list has.0) (added number) ∙ or-more (nat_eq key number) (before number) place other has.0 has.1)
 
 -- a table of words, with one word more
 
@@ -57,9 +34,9 @@ pushed-at (x ∷ list) last (suc i) known e = elim (pushed-at list last i known 
 
 -- each place is among those for a key of what stands there
 abbrev AreFound : (Known → ℕ) → (ℕ → List ℕ) → List Known → Type 0
-AreFound key_of table list = (place : ℕ) (known : Known) → slice_get list place ≡ Some known → HasPlace table (key_of known) place
+AreFound key_of table list = (place : ℕ) (known : Known) → slice_get list place ≡ Some known → HasValue table (key_of known) place
 
-pub still-found : (key_of : Known → ℕ) (before after : ℕ → List ℕ) (list : List Known) (key place : ℕ) → PlaceIsAdded before key place after → AreFound key_of before list → AreFound key_of after list
+pub still-found : (key_of : Known → ℕ) (before after : ℕ → List ℕ) (list : List Known) (key place : ℕ) → ValueIsAdded before key place after → AreFound key_of before list → AreFound key_of after list
 still-found key_of before after list key place added found other known at =
     still-has before after key (key_of known) place other added (found other known at)
 
@@ -68,15 +45,15 @@ same-found key_of before after list same found place known at =
     let has = found place known at in
     (has.0, ap (λ (xs : List ℕ). slice_get xs has.0) (same (key_of known)) ∙ has.1)
 
-pub found-pushed : (key_of : Known → ℕ) (before after : ℕ → List ℕ) (list more : List Known) (last : Known) (key place : ℕ) → more ≡ list ++ last ∷ [] → key ≡ key_of last → place ≡ length list → PlaceIsAdded before key place after → AreFound key_of before list → AreFound key_of after more
+pub found-pushed : (key_of : Known → ℕ) (before after : ℕ → List ℕ) (list more : List Known) (last : Known) (key place : ℕ) → more ≡ list ++ last ∷ [] → key ≡ key_of last → place ≡ length list → ValueIsAdded before key place after → AreFound key_of before list → AreFound key_of after more
 found-pushed key_of before after list more last key place is keyed placed added found other known at =
     elim (pushed-at list last other known (ap (λ xs. slice_get xs other) (sym is) ∙ at)) [
       | inl here ↦ still-found key_of before after list key place added found other known here
       | inr end ↦
-          let own : HasPlace after key place = has-added before after key place added in
+          let own : HasValue after key place = has-added before after key place added in
           let there : place ≡ other = placed ∙ sym end.0 in
           let number : key ≡ key_of known = keyed ∙ ap key_of end.1 in
-          subst (λ k. HasPlace after k other) number (subst (HasPlace after key) there own)
+          subst (λ k. HasValue after k other) number (subst (HasValue after key) there own)
     ]
 
 -- looking place by place: nothing that is looked for stands at these places
@@ -118,5 +95,5 @@ no-places list (p ∷ places) Wanted none i place known e at wanted = none-some 
 pub nowhere : (key_of : Known → ℕ) (Wanted : Known → Type 0) (table : ℕ → List ℕ) (list : List Known) (key : ℕ) → ((known : Known) → Wanted known → key_of known ≡ key) → AreFound key_of table list → AreOther list (table key) Wanted →
     (place : ℕ) (known : Known) → slice_get list place ≡ Some known → Wanted known → ⊥
 nowhere key_of Wanted table list key keyed found others place known at wanted =
-    let own : HasPlace table key place = subst (λ k. HasPlace table k place) (keyed known wanted) (found place known at) in
+    let own : HasValue table key place = subst (λ k. HasValue table k place) (keyed known wanted) (found place known at) in
     others own.0 place known own.1 at wanted

@@ -6,11 +6,10 @@ ghost use Rattle.sy_gates.specs.Circuits.{word_number, word_bound};
 ghost use Rattle.sy_bits_words.specs.Standing.{turned_number};
 ghost use Rattle.sy_bits_words.specs.Finding as keys;
 
-use crate::mixing::mixed;
 use std::alloc::Global;
 use sy_bits_sums::Sum;
 use sy_gates::{Bit, inverted, joined};
-use sy_seq::{Seq, Want};
+use sy_seq::{Seq, Want, mix};
 
 /// A word, and the sum that it stands for. The value of its place in a table is the number of the bits that are true in
 /// `other` too, which is the word itself where the place stands for it.
@@ -159,9 +158,9 @@ fn bit_code(bit: &Bit) -> u64
 fn word_key(seed: u64, word: &[Bit]) -> u64
     ensures { result ≡ keys.key_of_word seed word.now }
 {
-    let mut key = mixed(seed, word.len() as u64);
+    let mut key = mix(seed, word.len() as u64);
     for bit in word {
-        key = mixed(key, bit_code(bit));
+        key = mix(key, bit_code(bit));
     }
     key
 }

@@ -6,11 +6,9 @@ mod division;
 mod equality;
 mod known;
 mod meets;
-mod mixing;
 mod operations;
 mod sharing;
 mod sums;
-mod table;
 mod words;
 
 pub use known::Known;

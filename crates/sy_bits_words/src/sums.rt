@@ -4,8 +4,8 @@ ghost use Rattle.sy_bits_sums.specs.Polynomials.{total};
 ghost use Rattle.sy_bits_words.specs.Sums as contents;
 ghost use Rattle.sy_bits_words.specs.Sums.{monomial_content, sum_content, key_of_monomial, key_of_sum};
 
-use crate::mixing::mixed;
 use sy_bits_sums::{Monomial, Sum};
+use sy_seq::mix;
 
 /// Whether two monomials are the same.
 fn same_monomial(a: &Monomial, b: &Monomial) -> bool
@@ -45,7 +45,7 @@ fn places_key(seed: u64, places: &[u32]) -> u64
 {
     let mut key = seed;
     for place in places {
-        key = mixed(key, u64::from(*place));
+        key = mix(key, u64::from(*place));
     }
     key
 }
@@ -54,8 +54,8 @@ fn places_key(seed: u64, places: &[u32]) -> u64
 fn monomial_key(seed: u64, monomial: &Monomial) -> u64
     ensures { result ≡ key_of_monomial seed (monomial_content monomial.now) }
 {
-    let begun = mixed(seed, monomial.coefficient);
-    let counted = mixed(begun, monomial.factors.len() as u64);
+    let begun = mix(seed, monomial.coefficient);
+    let counted = mix(begun, monomial.factors.len() as u64);
     places_key(counted, monomial.factors.as_slice())
 }
 

@@ -27,12 +27,11 @@ ghost use Rattle.sy_bits_words.specs.Sums.{sum_content};
 
 use crate::known::{Known, is_first, is_fixed, own_sum, pair_key, same_word};
 use crate::sums::{same_sum, sum_key};
-use crate::table::Table;
 use std::alloc::Global;
 use std::marker::Model;
 use sy_bits_sums::Sum;
 use sy_gates::{Bit, constant, joined};
-use sy_seq::{Seq, Want};
+use sy_seq::{Buckets, Seq, Want};
 
 /// How many words are kept.
 const MOST_WORDS: usize = 1 << 20;
@@ -42,22 +41,22 @@ const MOST_WORDS: usize = 1 << 20;
 #[derive(Drop)]
 pub struct Words {
     known: Vec<Known>,
-    by_words: Table,
-    by_sum: Table,
+    by_words: Buckets<u32>,
+    by_sum: Buckets<u32>,
 }
 
 impl Model for Words {
     ghost use Rattle.std.specs.Prelude.{List};
     ghost use Rattle.sy_bits_words.specs.declared.known.Known.{Known};
-    ghost use Rattle.sy_bits_words.specs.Places.{places_of};
+    ghost use Rattle.sy_seq.specs.Buckets.{values_for};
     ghost use Rattle.sy_bits_words.specs.Finding.{WordsAreFound, SumsAreFound};
 
     ghost Value = { List Known };
 
     ghost view = { λ w. w.known.items };
 
-    ghost invariant = { λ w. WordsAreFound (places_of w.by_words) w.known.items ×
-        SumsAreFound (places_of w.by_sum) w.known.items };
+    ghost invariant = { λ w. WordsAreFound (values_for w.by_words) w.known.items ×
+        SumsAreFound (values_for w.by_sum) w.known.items };
 }
 
 impl Words {
@@ -73,8 +72,8 @@ impl Words {
     {
         Words {
             known: Vec::new(alloc),
-            by_words: Table::new(alloc),
-            by_sum: Table::new(alloc),
+            by_words: Buckets::new(alloc),
+            by_sum: Buckets::new(alloc),
         }
     }
 
@@ -135,8 +134,8 @@ impl Words {
         let Some(first) = self.by_words.first(key) else {
             return None;
         };
-        if self.has_pair(first as usize, word, other) {
-            return Some(first);
+        if self.has_pair(*first as usize, word, other) {
+            return Some(*first);
         }
         for place in self.by_words.others(key) {
             if self.has_pair(*place as usize, word, other) {
@@ -159,8 +158,8 @@ impl Words {
         let Some(first) = self.by_sum.first(key) else {
             return None;
         };
-        if self.has_sum(first as usize, sum) {
-            return Some(first as usize);
+        if self.has_sum(*first as usize, sum) {
+            return Some(*first as usize);
         }
         for place in self.by_sum.others(key) {
             if self.has_sum(*place as usize, sum) {

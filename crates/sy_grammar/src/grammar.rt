@@ -13,7 +13,7 @@ use crate::vectors::vector_nons;
 use crate::widths::ordered;
 use std::alloc::Global;
 use sy_grammar_base::{Grammar, Non};
-use sy_terms::{Logic, Seq, Sort, Theory, Want};
+use sy_terms::{Logic, Seq, Sort, Theory, Want, copied_sorts};
 
 /// The grammar of a function that is declared without one, by its arguments' sorts and its value's, which are sorts of
 /// the logic.
@@ -31,7 +31,7 @@ pub fn default_grammar<T: Theory>(
     ensures numbered { IfOk result (λ grammar. IsNumbered (syntax_from T.denotes grammar)) }
 {
     let nons = nonterminals(alloc, logic, args, sort)?;
-    let args = copied(alloc, args)?;
+    let args = copied_sorts(alloc, args)?;
     Ok(Grammar::new(args, nons, &Seq::new(alloc)))
 }
 
@@ -55,15 +55,4 @@ fn nonterminals<T: Theory>(
             Ok(nons)
         }
     }
-}
-
-/// The sorts, in a list of their own.
-fn copied(alloc: Global, sorts: &[Sort]) -> Result<Seq<Sort>, Want>
-    ensures { IfOk result (λ all. all ≡ sorts.now) }
-{
-    let mut all = Seq::new(alloc);
-    for sort in sorts {
-        all.push(*sort)?;
-    }
-    Ok(all)
 }

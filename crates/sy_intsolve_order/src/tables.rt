@@ -1,10 +1,10 @@
 // Forms, tests and results of operations, each kept once.
 use crate::arithmetic::{combined, is_downward, negation, scaled};
-use crate::hash::{form_hash, mixed};
+use crate::hash::form_hash;
 use std::alloc::Global;
 use std::collections::HashMap;
 use sy_linear_known::{Form, Test};
-use sy_seq::Want;
+use sy_seq::{Want, mix};
 
 /// Forms by number.
 #[derive(Drop)]
@@ -108,7 +108,7 @@ impl Operation {
             Operation::AtLeast => 4,
             Operation::Above => 5,
         };
-        mixed(mixed(code, first as u64), second as u64)
+        mix(mix(code, first as u64), second as u64)
     }
 
     /// The form of the operation; none where it doesn't fit.

@@ -11,7 +11,8 @@ use Rattle.sy_linear_known.specs.Forms.{Coefficient, same_coefficients, same_for
 use Rattle.sy_linear_known.specs.declared.path.Fact.{Fact}
 use Rattle.sy_linear_known.specs.declared.path.Fact.TheVariants.{AtLeast, Is}
 use Rattle.sy_linear_known.specs.Paths.{is_form, has_form}
-use Rattle.sy_linear_known.specs.Keys.{mixed, whole_code, coefficients_key, form_key}
+use Rattle.sy_seq.specs.Mixing.{mixed}
+use Rattle.sy_linear_known.specs.Keys.{whole_code, coefficients_key, form_key}
 use Rattle.sy_linear_known.specs.Keyed.{IsKeyed, EachIsKeyed}
 
 -- ---- keys

@@ -1,11 +1,8 @@
 -- Numbers by which forms are found.
 use Rattle.std.specs.Prelude.{ℕ, ◌+◌, ◌-◌, ◌*◌, ◌%◌, ◌^◌, cond, List, [], ◌∷◌, ℤ, pos, int_lt, unsigned_abs}
 use Rattle.sy_linear_known.specs.declared.form.Form.{Form}
+use Rattle.sy_seq.specs.Mixing.{mixed}
 use Rattle.sy_linear_known.specs.Forms.{Coefficient}
-
--- a number for two numbers
-abbrev pub mixed : ℕ → ℕ → ℕ
-mixed seed number = ((seed * 11400714819323198485) % 2 ^ 64 + number) % 2 ^ 64
 
 -- a number for a whole number
 abbrev pub whole_code : ℤ → ℕ

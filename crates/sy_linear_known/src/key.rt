@@ -3,13 +3,7 @@ ghost use Rattle.std.specs.Prelude.{◌≡◌};
 ghost use Rattle.sy_linear_known.specs.Keys as spec;
 
 use crate::form::Form;
-
-/// A number for both numbers.
-fn mixed(seed: u64, number: u64) -> u64
-    ensures { result ≡ spec.mixed seed number }
-{
-    seed.wrapping_mul(11400714819323198485).wrapping_add(number)
-}
+use sy_seq::mix;
 
 /// A number for the whole number.
 fn code(number: &i128) -> u64
@@ -25,8 +19,8 @@ fn coefficients_key(seed: u64, coefficients: &[(u32, i128)]) -> u64
 {
     let mut key = seed;
     for coefficient in coefficients {
-        let begun = mixed(key, u64::from(coefficient.0));
-        key = mixed(begun, code(&coefficient.1));
+        let begun = mix(key, u64::from(coefficient.0));
+        key = mix(begun, code(&coefficient.1));
     }
     key
 }

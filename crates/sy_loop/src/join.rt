@@ -1,6 +1,4 @@
 // Conditional trees over kept terms of sizes up to one, at points on which all constraints rest.
-// Functions here have more than seven parameters where clauses name the problem, the limits and the reach apart, as
-// those of the crates below do: a record of them would be taken apart at each call.
 ghost use Rattle.std.specs.Prelude.{ℕ, ◌≡◌, ◌<◌, ◌≤◌, ◌^◌, ◌∷◌, [], None, length, IfOk, IsTrue, OnOk};
 ghost use Rattle.sy_terms.specs.Denoted.{expr_of};
 ghost use Rattle.sy_grammar_base.specs.Fits.{ProblemFits};
@@ -22,14 +20,11 @@ use crate::plan::Plan;
 use crate::served::is_served;
 use std::alloc::{AllocError, Global};
 use sy_bank_level::{Bank, Kept};
-use sy_grammar_base::Problem;
 use sy_loop_candidate::{End, Known, Step, decide_due, try_candidate};
-use sy_loop_goods::{Goods, Memo, good_rows};
-use sy_loop_spec::Reach;
+use sy_loop_goods::{Goods, LeafTask, Memo, good_rows};
 use sy_loop_trees::{tree_term, truth_rows};
-use sy_loop_truth::Rest;
+use sy_loop_truth::{Rest, Search};
 use sy_query_base::Decide;
-use sy_query_limits::Limits;
 use sy_terms::{Seq, Term, Theory, Want};
 use sy_unify::{Choice, Joined, unify};
 
@@ -52,10 +47,7 @@ pub(crate) struct Parts<'a, T: Theory> {
 /// Tries a conditional tree over the bank's kept terms of sizes of at most `level`, at points on which all constraints
 /// rest. A leaf that leaves the 128 bits ends the search, unless a tree does more.
 pub(crate) fn join<T: Theory, D: Decide<T>>(
-    alloc: Global,
-    problem: &Problem<T>,
-    limits: &Limits,
-    reach: Reach,
+    task: &Search<T>,
     decide: &mut D,
     plan: &mut Plan<T>,
     bank: &Bank<T>,
@@ -63,24 +55,23 @@ pub(crate) fn join<T: Theory, D: Decide<T>>(
     rests: &[Rest],
     known: &mut Known<T>,
 ) -> Result<Step<T, D::Proof, D::Spent>, Want>
-    requires problem { ProblemFits T.Theory problem.now }
-    requires plan { IsPlanFor T.Theory reach problem.now plan.old }
-    requires bank { IsJoinableFor T.Theory problem.now known.old bank.now }
-    requires opened { IsOpenFor T.Theory reach problem.now limits.now known.old level }
-    requires known { IsKnownFor T.Theory reach problem.now limits.now known.old }
-    requires room { length known.old.stored.items < limits.now.rounds }
-    requires rests { AreRestsFor T.Theory problem.now known.old.stored known.old.points rests.now }
-    ensures plan { OnOk result (IsPlanFor T.Theory reach problem.now plan.new) }
-    ensures known { OnOk result (IsKnownFor T.Theory reach problem.now limits.now known.new) }
-    ensures step { IfOk result (GoesFor T.Theory D.Decide reach problem.now limits.now known.old known.new) }
-    ensures trees { IfOk result (OnNext (TreesFollowFromFor T.Theory reach problem.now known.old level bank.now)) }
+    requires problem { ProblemFits T.Theory task.now.problem.now }
+    requires plan { IsPlanFor T.Theory task.now plan.old }
+    requires bank { IsJoinableFor T.Theory task.now.problem.now known.old bank.now }
+    requires opened { IsOpenFor T.Theory task.now known.old level }
+    requires known { IsKnownFor T.Theory task.now known.old }
+    requires room { length known.old.stored.items < task.now.limits.now.rounds }
+    requires rests { AreRestsFor T.Theory task.now.problem.now known.old.stored known.old.points rests.now }
+    ensures plan { OnOk result (IsPlanFor T.Theory task.now plan.new) }
+    ensures known { OnOk result (IsKnownFor T.Theory task.now known.new) }
+    ensures step { IfOk result (GoesFor T.Theory D.Decide task.now known.old known.new) }
+    ensures trees { IfOk result (OnNext (TreesFollowFromFor T.Theory task.now known.old level bank.now)) }
 {
     if known.points.of(0).len() == 0 {
         return Ok(Step::Next);
     }
     let parts = parts_of(
-        alloc,
-        problem,
+        task,
         plan.condition,
         bank,
         level,
@@ -88,18 +79,13 @@ pub(crate) fn join<T: Theory, D: Decide<T>>(
         known,
         &mut plan.memo,
     )?;
-    join_parts(
-        alloc, problem, limits, reach, decide, plan, bank, level, &parts, known,
-    )
+    join_parts(task, decide, plan, bank, level, &parts, known)
 }
 
 /// Tries the tree over the parts that serves all points. Where that changes nothing, a leaf that left the 128 bits ends
 /// the search.
 fn join_parts<'a, T: Theory, D: Decide<T>>(
-    alloc: Global,
-    problem: &Problem<T>,
-    limits: &Limits,
-    reach: Reach,
+    task: &Search<T>,
     decide: &mut D,
     plan: &Plan<T>,
     bank: &Bank<T>,
@@ -107,22 +93,20 @@ fn join_parts<'a, T: Theory, D: Decide<T>>(
     parts: &Parts<'a, T>,
     known: &mut Known<T>,
 ) -> Result<Step<T, D::Proof, D::Spent>, Want>
-    requires problem { ProblemFits T.Theory problem.now }
-    requires plan { IsPlanFor T.Theory reach problem.now plan.now }
-    requires bank { IsJoinableFor T.Theory problem.now known.old bank.now }
-    requires opened { IsOpenFor T.Theory reach problem.now limits.now known.old level }
-    requires known { IsKnownFor T.Theory reach problem.now limits.now known.old }
-    requires room { length known.old.stored.items < limits.now.rounds }
-    requires parts { ArePartsFor T.Theory problem.now known.old plan.now.condition level bank.now parts.now }
+    requires problem { ProblemFits T.Theory task.now.problem.now }
+    requires plan { IsPlanFor T.Theory task.now plan.now }
+    requires bank { IsJoinableFor T.Theory task.now.problem.now known.old bank.now }
+    requires opened { IsOpenFor T.Theory task.now known.old level }
+    requires known { IsKnownFor T.Theory task.now known.old }
+    requires room { length known.old.stored.items < task.now.limits.now.rounds }
+    requires parts { ArePartsFor T.Theory task.now.problem.now known.old plan.now.condition level bank.now parts.now }
     requires few_leaves { length parts.now.goods.rows < 2 ^ 31 }
     requires few_conditions { length parts.now.rows < 2 ^ 31 }
-    ensures known { OnOk result (IsKnownFor T.Theory reach problem.now limits.now known.new) }
-    ensures step { IfOk result (GoesFor T.Theory D.Decide reach problem.now limits.now known.old known.new) }
-    ensures trees { IfOk result (OnNext (TreesFollowFromFor T.Theory reach problem.now known.old level bank.now)) }
+    ensures known { OnOk result (IsKnownFor T.Theory task.now known.new) }
+    ensures step { IfOk result (GoesFor T.Theory D.Decide task.now known.old known.new) }
+    ensures trees { IfOk result (OnNext (TreesFollowFromFor T.Theory task.now known.old level bank.now)) }
 {
-    match try_parts(
-        alloc, problem, limits, reach, decide, plan, bank, level, parts, known,
-    )? {
+    match try_parts(task, decide, plan, bank, level, parts, known)? {
         Step::Next => {}
         Step::Again => return Ok(Step::Again),
         Step::End(end) => return Ok(Step::End(end)),
@@ -130,14 +114,18 @@ fn join_parts<'a, T: Theory, D: Decide<T>>(
     let Some(leaving) = parts.goods.leaving else {
         return Ok(Step::Next);
     };
-    let (bodies, assignment) = copied_leaf(alloc, &known.stored, parts.leaves.as_slice(), leaving)?;
+    let (bodies, assignment) = copied_leaf(
+        task.alloc,
+        &known.stored,
+        parts.leaves.as_slice(),
+        leaving,
+    )?;
     Ok(Step::End(End::Checked(bodies, assignment)))
 }
 
 /// The bank's kept terms of sizes of at most `level`, as parts of trees whose conditions are of this nonterminal.
 fn parts_of<'a, T: Theory>(
-    alloc: Global,
-    problem: &Problem<T>,
+    task: &Search<T>,
     condition: u32,
     bank: &'a Bank<T>,
     level: u32,
@@ -145,37 +133,37 @@ fn parts_of<'a, T: Theory>(
     known: &Known<T>,
     memo: &mut Memo<T>,
 ) -> Result<Parts<'a, T>, Want>
-    requires problem { ProblemFits T.Theory problem.now }
-    requires pointwise { IsPointwise (question_of T.denotes problem.now) }
-    requires bank { IsJoinableFor T.Theory problem.now known.now bank.now }
-    requires assigned { AreAssignedFor T.Theory problem.now known.now.stored }
+    requires problem { ProblemFits T.Theory task.now.problem.now }
+    requires pointwise { IsPointwise (question_of T.denotes task.now.problem.now) }
+    requires bank { IsJoinableFor T.Theory task.now.problem.now known.now bank.now }
+    requires assigned { AreAssignedFor T.Theory task.now.problem.now known.now.stored }
     requires functions { 0 < length known.now.points.tuples }
     requires some { 0 < length (of_function known.now.points 0) }
-    requires rests { AreRestsFor T.Theory problem.now known.now.stored known.now.points rests.now }
-    requires memo { IsMemoFor T.Theory problem.now memo.old }
-    ensures parts { IfOk result (ArePartsFor T.Theory problem.now known.now condition level bank.now) }
+    requires rests { AreRestsFor T.Theory task.now.problem.now known.now.stored known.now.points rests.now }
+    requires memo { IsMemoFor T.Theory task.now.problem.now memo.old }
+    ensures parts { IfOk result (ArePartsFor T.Theory task.now.problem.now known.now condition level bank.now) }
     ensures few_leaves { IfOk result (λ parts. length parts.goods.rows < 2 ^ 31) }
     ensures few_conditions { IfOk result (λ parts. length parts.rows < 2 ^ 31) }
-    ensures memo { OnOk result (IsMemoFor T.Theory problem.now memo.new) }
+    ensures memo { OnOk result (IsMemoFor T.Theory task.now.problem.now memo.new) }
 {
     let Ok(points) = u32::try_from(known.points.of(0).len()) else {
         return Err(AllocError);
     };
-    let leaves = kept_up_to(alloc, bank, 0, level)?;
-    let conditions = kept_up_to(alloc, bank, condition, level)?;
+    let leaves = kept_up_to(task.alloc, bank, 0, level)?;
+    let conditions = kept_up_to(task.alloc, bank, condition, level)?;
     if leaves.len() >= TOO_MANY || conditions.len() >= TOO_MANY {
         return Err(AllocError);
     }
-    let goods = good_rows(
-        alloc,
-        problem,
-        &known.stored,
-        &known.points,
+    let judged = LeafTask {
+        alloc: task.alloc,
+        problem: task.problem,
+        stored: &known.stored,
+        points: &known.points,
         rests,
-        leaves.as_slice(),
-        memo,
-    )?;
-    let rows = truth_rows(alloc, conditions.as_slice())?;
+        leaves: leaves.as_slice(),
+    };
+    let goods = good_rows(&judged, memo)?;
+    let rows = truth_rows(task.alloc, conditions.as_slice())?;
     Ok(Parts {
         leaves,
         conditions,
@@ -188,10 +176,7 @@ fn parts_of<'a, T: Theory>(
 /// Tries the tree that serves all points. Where there is none, or it is refuted, all trees over parts of such sizes
 /// are, unless a leaf left the 128 bits.
 fn try_parts<'a, T: Theory, D: Decide<T>>(
-    alloc: Global,
-    problem: &Problem<T>,
-    limits: &Limits,
-    reach: Reach,
+    task: &Search<T>,
     decide: &mut D,
     plan: &Plan<T>,
     _bank: &Bank<T>,
@@ -199,28 +184,28 @@ fn try_parts<'a, T: Theory, D: Decide<T>>(
     parts: &Parts<'a, T>,
     known: &mut Known<T>,
 ) -> Result<Step<T, D::Proof, D::Spent>, Want>
-    requires problem { ProblemFits T.Theory problem.now }
-    requires plan { IsPlanFor T.Theory reach problem.now plan.now }
-    requires bank { IsJoinableFor T.Theory problem.now known.old _bank.now }
-    requires opened { IsOpenFor T.Theory reach problem.now limits.now known.old _level }
-    requires known { IsKnownFor T.Theory reach problem.now limits.now known.old }
-    requires room { length known.old.stored.items < limits.now.rounds }
-    requires parts { ArePartsFor T.Theory problem.now known.old plan.now.condition _level _bank.now parts.now }
+    requires problem { ProblemFits T.Theory task.now.problem.now }
+    requires plan { IsPlanFor T.Theory task.now plan.now }
+    requires bank { IsJoinableFor T.Theory task.now.problem.now known.old _bank.now }
+    requires opened { IsOpenFor T.Theory task.now known.old _level }
+    requires known { IsKnownFor T.Theory task.now known.old }
+    requires room { length known.old.stored.items < task.now.limits.now.rounds }
+    requires parts { ArePartsFor T.Theory task.now.problem.now known.old plan.now.condition _level _bank.now parts.now }
     requires few_leaves { length parts.now.goods.rows < 2 ^ 31 }
     requires few_conditions { length parts.now.rows < 2 ^ 31 }
-    ensures known { OnOk result (IsKnownFor T.Theory reach problem.now limits.now known.new) }
-    ensures step { IfOk result (GoesFor T.Theory D.Decide reach problem.now limits.now known.old known.new) }
+    ensures known { OnOk result (IsKnownFor T.Theory task.now known.new) }
+    ensures step { IfOk result (GoesFor T.Theory D.Decide task.now known.old known.new) }
     ensures trees { IfOk result (OnNext (parts.now.goods.leaving ≡ None →
-        TreesFollowFromFor T.Theory reach problem.now known.old _level _bank.now)) }
+        TreesFollowFromFor T.Theory task.now known.old _level _bank.now)) }
 {
-    match unify(alloc, parts.points, &parts.goods.rows, &parts.rows)? {
+    match unify(task.alloc, parts.points, &parts.goods.rows, &parts.rows)? {
         Joined::Uncovered(_) => Ok(Step::Next),
         Joined::Tree(choice) => {
             let leaves = parts.leaves.as_slice();
-            let term = chosen_term(alloc, choice, leaves, parts.conditions.as_slice())?;
+            let term = chosen_term(task.alloc, choice, leaves, parts.conditions.as_slice())?;
             let posed = plan.posed.as_slice();
             let served = is_served(posed, &parts.goods);
-            let step = try_tree(alloc, problem, limits, reach, decide, term, served, known)?;
+            let step = try_tree(task, decide, term, served, known)?;
             Ok(step)
         }
     }
@@ -244,75 +229,70 @@ fn chosen_term<T: Theory>(
 /// Tries the term as the one body. Where it is known to meet the problem at each stored assignment, it is decided at
 /// once.
 fn try_tree<T: Theory, D: Decide<T>>(
-    alloc: Global,
-    problem: &Problem<T>,
-    limits: &Limits,
-    reach: Reach,
+    task: &Search<T>,
     decide: &mut D,
     term: Term<T>,
     served: bool,
     known: &mut Known<T>,
 ) -> Result<Step<T, D::Proof, D::Spent>, Want>
-    requires problem { ProblemFits T.Theory problem.now }
-    requires candidate { IsCandidateFor T.Theory reach problem.now limits.now known.old (expr_of T.denotes term ∷ []) }
-    requires meets { IsTrue served → MeetAllFor T.Theory problem.now known.old.stored (expr_of T.denotes term ∷ []) }
-    requires known { IsKnownFor T.Theory reach problem.now limits.now known.old }
-    requires room { length known.old.stored.items < limits.now.rounds }
-    ensures known { OnOk result (IsKnownFor T.Theory reach problem.now limits.now known.new) }
-    ensures step { IfOk result (GoesFor T.Theory D.Decide reach problem.now limits.now known.old known.new) }
-    ensures refuted { IfOk result (OnNext (IsRefutedFor T.Theory problem.now known.old (expr_of T.denotes term ∷ []))) }
+    requires problem { ProblemFits T.Theory task.now.problem.now }
+    requires candidate { IsCandidateFor T.Theory task.now known.old (expr_of T.denotes term ∷ []) }
+    requires meets { IsTrue served →
+        MeetAllFor T.Theory task.now.problem.now known.old.stored (expr_of T.denotes term ∷ []) }
+    requires known { IsKnownFor T.Theory task.now known.old }
+    requires room { length known.old.stored.items < task.now.limits.now.rounds }
+    ensures known { OnOk result (IsKnownFor T.Theory task.now known.new) }
+    ensures step { IfOk result (GoesFor T.Theory D.Decide task.now known.old known.new) }
+    ensures refuted { IfOk result
+        (OnNext (IsRefutedFor T.Theory task.now.problem.now known.old (expr_of T.denotes term ∷ []))) }
 {
     if served {
-        return decide_term(alloc, problem, limits, reach, decide, term, known);
+        return decide_term(task, decide, term, known);
     }
-    try_term(alloc, problem, limits, reach, decide, term, known)
+    try_term(task, decide, term, known)
 }
 
 /// Decides the term as the one body, which meets the problem at each stored assignment.
 fn decide_term<T: Theory, D: Decide<T>>(
-    alloc: Global,
-    problem: &Problem<T>,
-    limits: &Limits,
-    reach: Reach,
+    task: &Search<T>,
     decide: &mut D,
     term: Term<T>,
     known: &mut Known<T>,
 ) -> Result<Step<T, D::Proof, D::Spent>, Want>
-    requires problem { ProblemFits T.Theory problem.now }
-    requires candidate { IsCandidateFor T.Theory reach problem.now limits.now known.old (expr_of T.denotes term ∷ []) }
-    requires meets { MeetAllFor T.Theory problem.now known.old.stored (expr_of T.denotes term ∷ []) }
-    requires known { IsKnownFor T.Theory reach problem.now limits.now known.old }
-    requires room { length known.old.stored.items < limits.now.rounds }
-    ensures known { OnOk result (IsKnownFor T.Theory reach problem.now limits.now known.new) }
-    ensures step { IfOk result (GoesFor T.Theory D.Decide reach problem.now limits.now known.old known.new) }
-    ensures refuted { IfOk result (OnNext (IsRefutedFor T.Theory problem.now known.old (expr_of T.denotes term ∷ []))) }
+    requires problem { ProblemFits T.Theory task.now.problem.now }
+    requires candidate { IsCandidateFor T.Theory task.now known.old (expr_of T.denotes term ∷ []) }
+    requires meets { MeetAllFor T.Theory task.now.problem.now known.old.stored (expr_of T.denotes term ∷ []) }
+    requires known { IsKnownFor T.Theory task.now known.old }
+    requires room { length known.old.stored.items < task.now.limits.now.rounds }
+    ensures known { OnOk result (IsKnownFor T.Theory task.now known.new) }
+    ensures step { IfOk result (GoesFor T.Theory D.Decide task.now known.old known.new) }
+    ensures refuted { IfOk result
+        (OnNext (IsRefutedFor T.Theory task.now.problem.now known.old (expr_of T.denotes term ∷ []))) }
 {
-    let mut bodies = Seq::new(alloc);
+    let mut bodies = Seq::new(task.alloc);
     bodies.push(term)?;
-    let step = decide_due(alloc, problem, limits, reach, decide, bodies, known)?;
+    let step = decide_due(task, decide, bodies, known)?;
     Ok(step)
 }
 
 /// Tries the term as the one body.
 fn try_term<T: Theory, D: Decide<T>>(
-    alloc: Global,
-    problem: &Problem<T>,
-    limits: &Limits,
-    reach: Reach,
+    task: &Search<T>,
     decide: &mut D,
     term: Term<T>,
     known: &mut Known<T>,
 ) -> Result<Step<T, D::Proof, D::Spent>, Want>
-    requires problem { ProblemFits T.Theory problem.now }
-    requires candidate { IsCandidateFor T.Theory reach problem.now limits.now known.old (expr_of T.denotes term ∷ []) }
-    requires known { IsKnownFor T.Theory reach problem.now limits.now known.old }
-    requires room { length known.old.stored.items < limits.now.rounds }
-    ensures known { OnOk result (IsKnownFor T.Theory reach problem.now limits.now known.new) }
-    ensures step { IfOk result (GoesFor T.Theory D.Decide reach problem.now limits.now known.old known.new) }
-    ensures refuted { IfOk result (OnNext (IsRefutedFor T.Theory problem.now known.old (expr_of T.denotes term ∷ []))) }
+    requires problem { ProblemFits T.Theory task.now.problem.now }
+    requires candidate { IsCandidateFor T.Theory task.now known.old (expr_of T.denotes term ∷ []) }
+    requires known { IsKnownFor T.Theory task.now known.old }
+    requires room { length known.old.stored.items < task.now.limits.now.rounds }
+    ensures known { OnOk result (IsKnownFor T.Theory task.now known.new) }
+    ensures step { IfOk result (GoesFor T.Theory D.Decide task.now known.old known.new) }
+    ensures refuted { IfOk result
+        (OnNext (IsRefutedFor T.Theory task.now.problem.now known.old (expr_of T.denotes term ∷ []))) }
 {
-    let mut bodies = Seq::new(alloc);
+    let mut bodies = Seq::new(task.alloc);
     bodies.push(term)?;
-    let step = try_candidate(alloc, problem, limits, reach, decide, bodies, known)?;
+    let step = try_candidate(task, decide, bodies, known)?;
     Ok(step)
 }

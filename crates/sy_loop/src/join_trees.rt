@@ -1,6 +1,4 @@
 // Conditional trees over what a bank keeps, at all tuples on which constraints rest.
-// Functions here have more than seven parameters where clauses name the problem, the limits and the reach apart, as
-// those of the crates below do: a record of them would be taken apart at each call.
 ghost use Rattle.std.specs.Prelude.{◌<◌, length, IfOk, OnOk};
 ghost use Rattle.sy_grammar_base.specs.Fits.{ProblemFits};
 ghost use Rattle.sy_loop_candidate.specs.Clauses.{GoesFor, IsKnownFor, IsOpenFor};
@@ -10,14 +8,11 @@ ghost use Rattle.sy_loop_candidate.specs.Going.{OnNext};
 use crate::copies::copied_pair;
 use crate::join::join;
 use crate::plan::Plan;
-use std::alloc::Global;
 use sy_bank_level::Bank;
-use sy_grammar_base::Problem;
 use sy_loop_candidate::{End, Known, Step};
 use sy_loop_pointwise::{Resting, rest_all};
-use sy_loop_spec::Reach;
+use sy_loop_truth::Search;
 use sy_query_base::Decide;
-use sy_query_limits::Limits;
 use sy_terms::{Theory, Want};
 
 /// Adds each tuple on which a constraint rests at a stored assignment to the points. Where all were there, tries a
@@ -25,31 +20,26 @@ use sy_terms::{Theory, Want};
 /// new is learned, all conditional trees over parts of such sizes are refuted, if the bank covers these and all members
 /// of such sizes are refuted.
 pub fn try_trees<T: Theory, D: Decide<T>>(
-    alloc: Global,
-    problem: &Problem<T>,
-    limits: &Limits,
-    reach: Reach,
+    task: &Search<T>,
     decide: &mut D,
     plan: &mut Plan<T>,
     bank: &Bank<T>,
     level: u32,
     known: &mut Known<T>,
 ) -> Result<Step<T, D::Proof, D::Spent>, Want>
-    requires problem { ProblemFits T.Theory problem.now }
-    requires plan { IsPlanFor T.Theory reach problem.now plan.old }
-    requires bank { IsJoinableFor T.Theory problem.now known.old bank.now }
-    requires opened { IsOpenFor T.Theory reach problem.now limits.now known.old level }
-    requires known { IsKnownFor T.Theory reach problem.now limits.now known.old }
-    requires room { length known.old.stored.items < limits.now.rounds }
-    ensures plan { OnOk result (IsPlanFor T.Theory reach problem.now plan.new) }
-    ensures known { OnOk result (IsKnownFor T.Theory reach problem.now limits.now known.new) }
-    ensures step { IfOk result (GoesFor T.Theory D.Decide reach problem.now limits.now known.old known.new) }
-    ensures trees { IfOk result (OnNext (TreesFollowFromFor T.Theory reach problem.now known.old level bank.now)) }
+    requires problem { ProblemFits T.Theory task.now.problem.now }
+    requires plan { IsPlanFor T.Theory task.now plan.old }
+    requires bank { IsJoinableFor T.Theory task.now.problem.now known.old bank.now }
+    requires opened { IsOpenFor T.Theory task.now known.old level }
+    requires known { IsKnownFor T.Theory task.now known.old }
+    requires room { length known.old.stored.items < task.now.limits.now.rounds }
+    ensures plan { OnOk result (IsPlanFor T.Theory task.now plan.new) }
+    ensures known { OnOk result (IsKnownFor T.Theory task.now known.new) }
+    ensures step { IfOk result (GoesFor T.Theory D.Decide task.now known.old known.new) }
+    ensures trees { IfOk result (OnNext (TreesFollowFromFor T.Theory task.now known.old level bank.now)) }
 {
     let resting = rest_all(
-        alloc,
-        problem,
-        limits,
+        task,
         plan.posed.as_slice(),
         &known.stored,
         &mut known.points,
@@ -57,18 +47,16 @@ pub fn try_trees<T: Theory, D: Decide<T>>(
     match resting {
         Resting::All(rests) => {
             let rests = rests.as_slice();
-            let step = join(
-                alloc, problem, limits, reach, decide, plan, bank, level, rests, known,
-            )?;
+            let step = join(task, decide, plan, bank, level, rests, known)?;
             Ok(step)
         }
         Resting::New => Ok(Step::Again),
         Resting::Full(place) => {
-            let (bodies, assignment) = copied_pair(alloc, &known.stored, place)?;
+            let (bodies, assignment) = copied_pair(task.alloc, &known.stored, place)?;
             Ok(Step::End(End::Points(0, bodies, assignment)))
         }
         Resting::Leaves(place) => {
-            let (bodies, assignment) = copied_pair(alloc, &known.stored, place)?;
+            let (bodies, assignment) = copied_pair(task.alloc, &known.stored, place)?;
             Ok(Step::End(End::Checked(bodies, assignment)))
         }
     }

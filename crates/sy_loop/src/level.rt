@@ -1,6 +1,4 @@
 // All bodies of one size together.
-// Functions here have more than seven parameters where clauses name the problem, the limits and the reach apart, as
-// those of the crates below do: a record of them would be taken apart at each call.
 ghost use Rattle.std.specs.Prelude.{◌≡◌, ◌≤◌, ◌<◌, ◌+◌, ◌++◌, ◌∷◌, [], length, map, drop, All, IfOk, OnOk};
 ghost use Rattle.sy_terms.specs.Denoted.{expr_of};
 ghost use Rattle.sy_bank_level.specs.Bank.{merged_of};
@@ -14,21 +12,16 @@ ghost use Rattle.sy_loop.specs.LevelClauses.{AreHonestFor, HaveRowsFor, IsBegunF
 
 use std::alloc::Global;
 use sy_bank_level::{Bank, Kept};
-use sy_grammar_base::Problem;
 use sy_loop_candidate::{Known, Step, Suspects, are_refuted, try_candidate};
-use sy_loop_spec::Reach;
+use sy_loop_truth::Search;
 use sy_query_base::Decide;
-use sy_query_limits::Limits;
 use sy_terms::{Bodies, Seq, Theory, Want};
 
-/// What stays the same while bodies are tried: the problem, the limits, which bodies count as candidates, the size that
-/// the bodies' sizes sum to, and a bank for each function to be found.
+/// What stays the same while bodies are tried: what the search is given, the size that the bodies' sizes sum to, and a
+/// bank for each function to be found.
 #[derive(Drop)]
-struct Task<'a, T: Theory> {
-    alloc: Global,
-    problem: &'a Problem<T>,
-    limits: &'a Limits,
-    reach: Reach,
+struct LevelTask<'a, T: Theory> {
+    given: &'a Search<'a, T>,
     level: u32,
     banks: &'a [Bank<T>],
 }
@@ -36,65 +29,58 @@ struct Task<'a, T: Theory> {
 /// Tries all bodies of kept terms of the banks whose sizes sum to `level`. `Want` comes where memory doesn't suffice
 /// for the chosen terms, or for judging and deciding a candidate.
 pub fn try_level<T: Theory, D: Decide<T>>(
-    alloc: Global,
-    problem: &Problem<T>,
-    limits: &Limits,
-    reach: Reach,
+    task: &Search<T>,
     decide: &mut D,
     banks: &[Bank<T>],
     level: u32,
     known: &mut Known<T>,
 ) -> Result<Step<T, D::Proof, D::Spent>, Want>
-    requires problem { ProblemFits T.Theory problem.now }
-    requires banks { AreHonestFor T.Theory problem.now known.old.points banks.now }
-    requires opened { IsOpenFor T.Theory reach problem.now limits.now known.old level }
-    requires known { IsKnownFor T.Theory reach problem.now limits.now known.old }
-    requires room { length known.old.stored.items < limits.now.rounds }
-    ensures known { OnOk result (IsKnownFor T.Theory reach problem.now limits.now known.new) }
-    ensures step { IfOk result (GoesFor T.Theory D.Decide reach problem.now limits.now known.old known.new) }
+    requires problem { ProblemFits T.Theory task.now.problem.now }
+    requires banks { AreHonestFor T.Theory task.now known.old.points banks.now }
+    requires opened { IsOpenFor T.Theory task.now known.old level }
+    requires known { IsKnownFor T.Theory task.now known.old }
+    requires room { length known.old.stored.items < task.now.limits.now.rounds }
+    ensures known { OnOk result (IsKnownFor T.Theory task.now known.new) }
+    ensures step { IfOk result (GoesFor T.Theory D.Decide task.now known.old known.new) }
     ensures refuted { IfOk result
-        (OnNext (AllAreRefutedFor T.Theory problem.now known.old [] (map (merged_of T.denotes) banks.now) level)) }
+        (OnNext (AllAreRefutedFor T.Theory task.now known.old [] (map (merged_of T.denotes) banks.now) level)) }
 {
-    let task = Task {
-        alloc,
-        problem,
-        limits,
-        reach,
+    let trial = LevelTask {
+        given: task,
         level,
         banks,
     };
-    let mut chosen = Vec::with_capacity(alloc, banks.len())?;
-    let mut suspects = Suspects::new(alloc);
-    let step = try_rest(&task, decide, &mut suspects, &mut chosen, level, known)?;
+    let mut chosen = Vec::with_capacity(task.alloc, banks.len())?;
+    let mut suspects = Suspects::new(task.alloc);
+    let step = try_rest(&trial, decide, &mut suspects, &mut chosen, level, known)?;
     Ok(step)
 }
 
 /// Tries all bodies that begin with the chosen kept terms, and whose further sizes sum to `left`.
 #[cycle(level)]
 fn try_rest<'a, T: Theory, D: Decide<T>>(
-    task: &Task<'a, T>,
+    task: &LevelTask<'a, T>,
     decide: &mut D,
     suspects: &mut Suspects,
     chosen: &mut Vec<&'a Kept<T>>,
     left: u32,
     known: &mut Known<T>,
 ) -> Result<Step<T, D::Proof, D::Spent>, Want>
-    requires problem { ProblemFits T.Theory task.now.problem.now }
-    requires banks { AreHonestFor T.Theory task.now.problem.now known.old.points task.now.banks.now }
-    requires begun { IsBegunFor T.Theory task.now.problem.now known.old.points task.now.level
+    requires problem { ProblemFits T.Theory task.now.given.now.problem.now }
+    requires banks { AreHonestFor T.Theory task.now.given.now known.old.points task.now.banks.now }
+    requires begun { IsBegunFor T.Theory task.now.given.now known.old.points task.now.level
         (chosen_of T.denotes chosen.old.items) left }
     requires few { length chosen.old.items ≤ length task.now.banks.now }
-    requires opened { IsOpenFor T.Theory task.now.reach
-        task.now.problem.now task.now.limits.now known.old task.now.level }
-    requires known { IsKnownFor T.Theory task.now.reach task.now.problem.now task.now.limits.now known.old }
-    requires room { length known.old.stored.items < task.now.limits.now.rounds }
+    requires opened { IsOpenFor T.Theory task.now.given.now known.old task.now.level }
+    requires known { IsKnownFor T.Theory task.now.given.now known.old }
+    requires room { length known.old.stored.items < task.now.given.now.limits.now.rounds }
     ensures chosen { OnOk result (chosen.new.items ≡ chosen.old.items) }
     ensures known { OnOk result
-        (IsKnownFor T.Theory task.now.reach task.now.problem.now task.now.limits.now known.new) }
+        (IsKnownFor T.Theory task.now.given.now known.new) }
     ensures step { IfOk result
-        (GoesFor T.Theory D.Decide task.now.reach task.now.problem.now task.now.limits.now known.old known.new) }
+        (GoesFor T.Theory D.Decide task.now.given.now known.old known.new) }
     ensures refuted { IfOk result
-        (OnNext (AllAreRefutedFor T.Theory task.now.problem.now known.old (terms (chosen_of T.denotes chosen.old.items))
+        (OnNext (AllAreRefutedFor T.Theory task.now.given.now known.old (terms (chosen_of T.denotes chosen.old.items))
         (drop (length chosen.old.items) (map (merged_of T.denotes) task.now.banks.now)) left)) }
 {
     let function = chosen.len();
@@ -126,7 +112,7 @@ fn try_rest<'a, T: Theory, D: Decide<T>>(
 /// Tries all bodies that begin with the chosen kept terms and one of these of the next function.
 #[cycle(level)]
 fn try_kept<'a, T: Theory, D: Decide<T>>(
-    task: &Task<'a, T>,
+    task: &LevelTask<'a, T>,
     decide: &mut D,
     suspects: &mut Suspects,
     chosen: &mut Vec<&'a Kept<T>>,
@@ -134,21 +120,20 @@ fn try_kept<'a, T: Theory, D: Decide<T>>(
     left: u32,
     known: &mut Known<T>,
 ) -> Result<Step<T, D::Proof, D::Spent>, Want>
-    requires problem { ProblemFits T.Theory task.now.problem.now }
-    requires banks { AreHonestFor T.Theory task.now.problem.now known.old.points task.now.banks.now }
+    requires problem { ProblemFits T.Theory task.now.given.now.problem.now }
+    requires banks { AreHonestFor T.Theory task.now.given.now known.old.points task.now.banks.now }
     requires few { length chosen.old.items < length task.now.banks.now }
-    requires choices { AreChoicesFor T.Theory task.now.problem.now known.old.points task.now.level
+    requires choices { AreChoicesFor T.Theory task.now.given.now known.old.points task.now.level
         (chosen_of T.denotes chosen.old.items) (entries_of T.denotes kept.now) left }
-    requires opened { IsOpenFor T.Theory task.now.reach
-        task.now.problem.now task.now.limits.now known.old task.now.level }
-    requires known { IsKnownFor T.Theory task.now.reach task.now.problem.now task.now.limits.now known.old }
-    requires room { length known.old.stored.items < task.now.limits.now.rounds }
+    requires opened { IsOpenFor T.Theory task.now.given.now known.old task.now.level }
+    requires known { IsKnownFor T.Theory task.now.given.now known.old }
+    requires room { length known.old.stored.items < task.now.given.now.limits.now.rounds }
     ensures chosen { OnOk result (chosen.new.items ≡ chosen.old.items) }
     ensures known { OnOk result
-        (IsKnownFor T.Theory task.now.reach task.now.problem.now task.now.limits.now known.new) }
+        (IsKnownFor T.Theory task.now.given.now known.new) }
     ensures step { IfOk result
-        (GoesFor T.Theory D.Decide task.now.reach task.now.problem.now task.now.limits.now known.old known.new) }
-    ensures refuted { IfOk result (OnNext (All (λ term. AllAreRefutedFor T.Theory task.now.problem.now known.old
+        (GoesFor T.Theory D.Decide task.now.given.now known.old known.new) }
+    ensures refuted { IfOk result (OnNext (All (λ term. AllAreRefutedFor T.Theory task.now.given.now known.old
         (terms (chosen_of T.denotes chosen.old.items ++ entry_of T.denotes term ∷ []))
         (drop (length chosen.old.items + 1) (map (merged_of T.denotes) task.now.banks.now)) left) kept.now)) }
 {
@@ -168,29 +153,28 @@ fn try_kept<'a, T: Theory, D: Decide<T>>(
 /// Tries the chosen kept terms as bodies. Where their rows show that they violate the problem at a stored assignment,
 /// they are neither copied nor evaluated.
 fn try_chosen<T: Theory, D: Decide<T>>(
-    task: &Task<T>,
+    task: &LevelTask<T>,
     decide: &mut D,
     suspects: &mut Suspects,
     chosen: &[&Kept<T>],
     known: &mut Known<T>,
 ) -> Result<Step<T, D::Proof, D::Spent>, Want>
-    requires problem { ProblemFits T.Theory task.now.problem.now }
-    requires within { AreWithinFor T.Theory task.now.problem.now task.now.level
+    requires problem { ProblemFits T.Theory task.now.given.now.problem.now }
+    requires within { AreWithinFor T.Theory task.now.given.now task.now.level
         (terms (chosen_of T.denotes chosen.now)) }
-    requires rows { HaveRowsFor T.Theory task.now.problem.now known.old.points (chosen_of T.denotes chosen.now) }
-    requires opened { IsOpenFor T.Theory task.now.reach
-        task.now.problem.now task.now.limits.now known.old task.now.level }
-    requires known { IsKnownFor T.Theory task.now.reach task.now.problem.now task.now.limits.now known.old }
-    requires room { length known.old.stored.items < task.now.limits.now.rounds }
+    requires rows { HaveRowsFor T.Theory task.now.given.now known.old.points (chosen_of T.denotes chosen.now) }
+    requires opened { IsOpenFor T.Theory task.now.given.now known.old task.now.level }
+    requires known { IsKnownFor T.Theory task.now.given.now known.old }
+    requires room { length known.old.stored.items < task.now.given.now.limits.now.rounds }
     ensures known { OnOk result
-        (IsKnownFor T.Theory task.now.reach task.now.problem.now task.now.limits.now known.new) }
+        (IsKnownFor T.Theory task.now.given.now known.new) }
     ensures grows { OnOk result (TuplesGrow known.old.points known.new.points) }
-    ensures step { IfOk result (StepsFor T.Theory D.Decide task.now.reach task.now.problem.now task.now.limits.now
+    ensures step { IfOk result (StepsFor T.Theory D.Decide task.now.given.now
         (terms (chosen_of T.denotes chosen.now)) known.old known.new) }
 {
     let refuted = are_refuted(
-        task.alloc,
-        task.problem,
+        task.given.alloc,
+        task.given.problem,
         chosen,
         &known.points,
         &known.stored,
@@ -199,16 +183,8 @@ fn try_chosen<T: Theory, D: Decide<T>>(
     if refuted {
         return Ok(Step::Next);
     }
-    let bodies = copied_bodies(task.alloc, chosen)?;
-    let step = try_candidate(
-        task.alloc,
-        task.problem,
-        task.limits,
-        task.reach,
-        decide,
-        bodies,
-        known,
-    )?;
+    let bodies = copied_bodies(task.given.alloc, chosen)?;
+    let step = try_candidate(task.given, decide, bodies, known)?;
     Ok(step)
 }
 

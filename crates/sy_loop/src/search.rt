@@ -13,6 +13,7 @@ use sy_grammar_base::Problem;
 use sy_loop_candidate::Known;
 use sy_loop_claims::{first_size, unbegun};
 use sy_loop_spec::{Outcome, Reach};
+use sy_loop_truth::Search;
 use sy_points::{Points, Stored};
 use sy_query_base::Decide;
 use sy_query_limits::Limits;
@@ -80,13 +81,17 @@ fn search<T: Theory, D: Decide<T>>(
         stored: Stored::new(alloc),
         points: Points::new(alloc, functions, limits.points)?,
     };
-    let mut plan = plan_of(alloc, problem, reach)?;
+    let task = Search {
+        alloc,
+        problem,
+        limits,
+        reach,
+    };
+    let mut plan = plan_of(&task)?;
     let mut banks = Vec::new(alloc);
     let mut level = first_size(limits);
     'rounds: loop {
-        match run_round(
-            alloc, problem, limits, reach, functions, decide, &mut plan, known, banks, level,
-        )? {
+        match run_round(&task, functions, decide, &mut plan, known, banks, level)? {
             Round::Goes(more, carried, next) => {
                 known = more;
                 banks = carried;

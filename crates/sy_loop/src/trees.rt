@@ -1,6 +1,4 @@
 // The bodies of one size, and then conditional trees over kept terms of sizes up to it.
-// Functions here have more than seven parameters where clauses name the problem, the limits and the reach apart, as
-// those of the crates below do: a record of them would be taken apart at each call.
 ghost use Rattle.std.specs.Prelude.{◌<◌, [], length, map, IfOk, OnOk};
 ghost use Rattle.sy_bank_level.specs.Bank.{merged_of};
 ghost use Rattle.sy_grammar_base.specs.Fits.{ProblemFits};
@@ -13,74 +11,63 @@ ghost use Rattle.sy_loop.specs.RoundClauses.{TreesFollowFor};
 use crate::join_trees::try_trees;
 use crate::level::try_level;
 use crate::plan::Plan;
-use std::alloc::Global;
 use sy_bank_level::Bank;
-use sy_grammar_base::Problem;
 use sy_loop_candidate::{Known, Step};
-use sy_loop_spec::Reach;
+use sy_loop_truth::Search;
 use sy_query_base::Decide;
-use sy_query_limits::Limits;
 use sy_terms::{Theory, Want};
 
 /// Tries all bodies of kept terms of the banks whose sizes sum to `level`. Where nothing new is learned, conditional
 /// trees over kept terms of sizes up to it are next.
 pub(crate) fn try_size<T: Theory, D: Decide<T>>(
-    alloc: Global,
-    problem: &Problem<T>,
-    limits: &Limits,
-    reach: Reach,
+    task: &Search<T>,
     decide: &mut D,
     plan: &mut Option<Plan<T>>,
     banks: &[Bank<T>],
     level: u32,
     known: &mut Known<T>,
 ) -> Result<Step<T, D::Proof, D::Spent>, Want>
-    requires problem { ProblemFits T.Theory problem.now }
-    requires plan { IsPlannedFor T.Theory reach problem.now plan.old }
-    requires banks { AreHonestFor T.Theory problem.now known.old.points banks.now }
-    requires opened { IsOpenFor T.Theory reach problem.now limits.now known.old level }
-    requires known { IsKnownFor T.Theory reach problem.now limits.now known.old }
-    requires room { length known.old.stored.items < limits.now.rounds }
-    ensures plan { OnOk result (IsPlannedFor T.Theory reach problem.now plan.new) }
-    ensures known { OnOk result (IsKnownFor T.Theory reach problem.now limits.now known.new) }
-    ensures step { IfOk result (GoesFor T.Theory D.Decide reach problem.now limits.now known.old known.new) }
+    requires problem { ProblemFits T.Theory task.now.problem.now }
+    requires plan { IsPlannedFor T.Theory task.now plan.old }
+    requires banks { AreHonestFor T.Theory task.now known.old.points banks.now }
+    requires opened { IsOpenFor T.Theory task.now known.old level }
+    requires known { IsKnownFor T.Theory task.now known.old }
+    requires room { length known.old.stored.items < task.now.limits.now.rounds }
+    ensures plan { OnOk result (IsPlannedFor T.Theory task.now plan.new) }
+    ensures known { OnOk result (IsKnownFor T.Theory task.now known.new) }
+    ensures step { IfOk result (GoesFor T.Theory D.Decide task.now known.old known.new) }
     ensures refuted { IfOk result
-        (OnNext (AllAreRefutedFor T.Theory problem.now known.old [] (map (merged_of T.denotes) banks.now) level)) }
-    ensures trees { IfOk result (OnNext (TreesFollowFor T.Theory reach problem.now known.old level banks.now)) }
+        (OnNext (AllAreRefutedFor T.Theory task.now known.old [] (map (merged_of T.denotes) banks.now) level)) }
+    ensures trees { IfOk result (OnNext (TreesFollowFor T.Theory task.now known.old level banks.now)) }
 {
-    match try_level(alloc, problem, limits, reach, decide, banks, level, known)? {
+    match try_level(task, decide, banks, level, known)? {
         Step::Next => {}
         Step::Again => return Ok(Step::Again),
         Step::End(end) => return Ok(Step::End(end)),
     }
-    let step = join_kept(
-        alloc, problem, limits, reach, decide, plan, banks, level, known,
-    )?;
+    let step = join_kept(task, decide, plan, banks, level, known)?;
     Ok(step)
 }
 
 /// Tries a conditional tree over kept terms of the one function's bank, where there is a plan.
 fn join_kept<T: Theory, D: Decide<T>>(
-    alloc: Global,
-    problem: &Problem<T>,
-    limits: &Limits,
-    reach: Reach,
+    task: &Search<T>,
     decide: &mut D,
     plan: &mut Option<Plan<T>>,
     banks: &[Bank<T>],
     level: u32,
     known: &mut Known<T>,
 ) -> Result<Step<T, D::Proof, D::Spent>, Want>
-    requires problem { ProblemFits T.Theory problem.now }
-    requires plan { IsPlannedFor T.Theory reach problem.now plan.old }
-    requires banks { AreHonestFor T.Theory problem.now known.old.points banks.now }
-    requires opened { IsOpenFor T.Theory reach problem.now limits.now known.old level }
-    requires known { IsKnownFor T.Theory reach problem.now limits.now known.old }
-    requires room { length known.old.stored.items < limits.now.rounds }
-    ensures plan { OnOk result (IsPlannedFor T.Theory reach problem.now plan.new) }
-    ensures known { OnOk result (IsKnownFor T.Theory reach problem.now limits.now known.new) }
-    ensures step { IfOk result (GoesFor T.Theory D.Decide reach problem.now limits.now known.old known.new) }
-    ensures trees { IfOk result (OnNext (TreesFollowFor T.Theory reach problem.now known.old level banks.now)) }
+    requires problem { ProblemFits T.Theory task.now.problem.now }
+    requires plan { IsPlannedFor T.Theory task.now plan.old }
+    requires banks { AreHonestFor T.Theory task.now known.old.points banks.now }
+    requires opened { IsOpenFor T.Theory task.now known.old level }
+    requires known { IsKnownFor T.Theory task.now known.old }
+    requires room { length known.old.stored.items < task.now.limits.now.rounds }
+    ensures plan { OnOk result (IsPlannedFor T.Theory task.now plan.new) }
+    ensures known { OnOk result (IsKnownFor T.Theory task.now known.new) }
+    ensures step { IfOk result (GoesFor T.Theory D.Decide task.now known.old known.new) }
+    ensures trees { IfOk result (OnNext (TreesFollowFor T.Theory task.now known.old level banks.now)) }
 {
     let Some(plan) = plan else {
         return Ok(Step::Next);
@@ -88,8 +75,6 @@ fn join_kept<T: Theory, D: Decide<T>>(
     let Some(bank) = banks.get(0) else {
         unreachable!();
     };
-    let step = try_trees(
-        alloc, problem, limits, reach, decide, plan, bank, level, known,
-    )?;
+    let step = try_trees(task, decide, plan, bank, level, known)?;
     Ok(step)
 }

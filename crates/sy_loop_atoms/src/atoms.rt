@@ -2,11 +2,12 @@
 ghost use Rattle.sy_grammar_base.specs.Fits.{ProblemFits};
 
 use crate::setting::{Setting, Shape};
+use crate::statements::Statements;
 use crate::terms::term_of;
+use crate::values::value_of;
 use std::alloc::Global;
 use sy_grammar_sizes::number_of;
 use sy_loop_literals::{Given, Kind, Literal, Sides, Table, Traits};
-use sy_loop_statements::{Statements, value_of};
 use sy_terms::{Term, Theory, Value, Want};
 
 /// Literals of the one function's arguments, by number: comparisons and other terms of sort Bool. They are a guide to a

@@ -2,9 +2,10 @@
 ghost use Rattle.sy_grammar_base.specs.Fits.{ProblemFits};
 
 use crate::atoms::Atoms;
+use crate::opening::Opening;
 use crate::setting::Setting;
+use crate::statements::Statements;
 use sy_loop_literals::{Both, Compared, Formula, Token, compared_at, connected};
-use sy_loop_statements::{Opening, Statements};
 use sy_terms::{Op, Sort, Theory, Want};
 
 impl Atoms {

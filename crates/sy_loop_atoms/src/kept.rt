@@ -2,10 +2,10 @@
 ghost use Rattle.sy_grammar_base.specs.Fits.{ProblemFits};
 
 use crate::atoms::Atoms;
+use crate::opening::opened;
 use crate::setting::Setting;
 use sy_bank_level::Bank;
 use sy_loop_literals::{Compared, Kind, Relation, Sum, Token, Traits, compared_in};
-use sy_loop_statements::opened;
 use sy_terms::{Op, Term, Theory, Want};
 
 /// How many kept terms become literals at most.

@@ -3,8 +3,8 @@ ghost use Rattle.sy_grammar_base.specs.Fits.{ProblemFits};
 
 use crate::atoms::Atoms;
 use crate::setting::Setting;
+use crate::statements::Statements;
 use sy_loop_literals::{Compared, Kind, Token, compared_at};
-use sy_loop_statements::Statements;
 use sy_terms::{Theory, Want};
 
 impl Atoms {

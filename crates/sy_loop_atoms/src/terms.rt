@@ -2,11 +2,11 @@
 ghost use Rattle.sy_grammar_base.specs.Fits.{ProblemFits};
 
 use crate::setting::Setting;
+use crate::values::constant_of;
 use std::alloc::Global;
 use sy_grammar::derive;
 use sy_grammar_sizes::derivation_size;
 use sy_loop_literals::Token;
-use sy_loop_statements::constant_of;
 use sy_terms::{Op, Sort, Term, Terms, Theory, Want};
 
 /// The term of the tokens; `None` where the theory hasn't a constant.

@@ -1,6 +1,4 @@
 // The banks of all functions to be found.
-// Functions here have more than seven parameters where clauses name the problem, the limits and the reach apart, as
-// those of the crates below do: a record of them would be taken apart at each call.
 ghost use Rattle.std.specs.Prelude.{◌≡◌, ◌↔◌, IsTrue, true, Some, length, map, IfOk, IfSome};
 ghost use Rattle.sy_terms.specs.Denoted.{vals_of};
 ghost use Rattle.sy_terms.specs.Definitions.{DefinitionsFit, scope_of, bodies};
@@ -22,7 +20,7 @@ use sy_bank::{Bank, BankEnd, grow};
 use sy_bank_level::Kept;
 use sy_grammar_base::{Problem, Wanted};
 use sy_loop_candidate::Known;
-use sy_loop_spec::Reach;
+use sy_loop_truth::Search;
 use sy_query_limits::Limits;
 use sy_terms::{Seq, Theory, Values, Want, same_values};
 
@@ -38,30 +36,35 @@ pub enum Banks<T: Theory> {
 /// A bank up to this size for each function to be found, over its tuples; or the first that is full. Those of the
 /// carried banks that are over them and dropped nothing go on. `Want` comes where memory doesn't suffice for a bank.
 pub fn take_banks<T: Theory>(
-    alloc: Global,
-    problem: &Problem<T>,
-    limits: &Limits,
-    reach: Reach,
+    task: &Search<T>,
     functions: u32,
     known: &Known<T>,
     carried: Vec<Bank<T>>,
     level: u32,
 ) -> Result<Banks<T>, Want>
-    requires problem { ProblemFits T.Theory problem.now }
-    requires functions { functions ≡ length problem.now.wanted }
-    requires known { IsKnownFor T.Theory reach problem.now limits.now known.now }
-    requires carried { AreCarriedFor T.Theory problem.now limits.now level carried.items }
-    ensures built { IfOk result (AreBuiltFor T.Theory problem.now limits.now known.now.points level) }
-    ensures carried { IfOk result (OnBanks (AreCarriedFor T.Theory problem.now limits.now level)) }
+    requires problem { ProblemFits T.Theory task.now.problem.now }
+    requires functions { functions ≡ length task.now.problem.now.wanted }
+    requires known { IsKnownFor T.Theory task.now known.now }
+    requires carried { AreCarriedFor T.Theory task.now level carried.items }
+    ensures built { IfOk result (AreBuiltFor T.Theory task.now known.now.points level) }
+    ensures carried { IfOk result (OnBanks (AreCarriedFor T.Theory task.now level)) }
 {
     let mut rest = carried.into_iter();
-    let mut banks = Vec::new(alloc);
+    let mut banks = Vec::new(task.alloc);
     for function in 0..functions {
-        let Some(wanted) = problem.wanted.get(function as usize) else {
+        let Some(wanted) = task.problem.wanted.get(function as usize) else {
             unreachable!();
         };
         let points = known.points.of(function);
-        match take_bank(alloc, problem, limits, wanted, points, rest.next(), level) {
+        match take_bank(
+            task.alloc,
+            task.problem,
+            task.limits,
+            wanted,
+            points,
+            rest.next(),
+            level,
+        ) {
             Ok(bank) => banks.push(bank)?,
             Err(end) => {
                 let full = full_bank(function, end)?;

@@ -1,6 +1,4 @@
 // Terms that banks dropped.
-// Functions here have more than seven parameters where clauses name the problem, the limits and the reach apart, as
-// those of the crates below do: a record of them would be taken apart at each call.
 ghost use Rattle.std.specs.Prelude.{◌≡◌, ◌<◌, length, map, IfOk, MatchOption, None};
 ghost use Rattle.sy_grammar_base.specs.Questions.{question_of};
 ghost use Rattle.sy_bank_level.specs.Bank.{merged_of};
@@ -13,38 +11,34 @@ ghost use Rattle.sy_loop_banks.specs.Dropping.{DroppedNothing, IsPlaced, IsDropp
 
 use std::alloc::Global;
 use sy_bank_level::Bank;
-use sy_grammar_base::Problem;
 use sy_loop_candidate::Known;
-use sy_loop_spec::{LoopRange, Reach};
-use sy_query_limits::Limits;
+use sy_loop_spec::LoopRange;
+use sy_loop_truth::Search;
 use sy_terms::{Theory, Want, copied_values};
 
 /// A term that one of the banks dropped, at the tuple where it leaves the 128 bits; `None` exactly where none did.
 /// `Want` comes where memory doesn't suffice for a copy of both.
 pub fn dropped_term<T: Theory>(
-    alloc: Global,
-    problem: &Problem<T>,
-    limits: &Limits,
-    reach: Reach,
+    task: &Search<T>,
     functions: u32,
     banks: &[Bank<T>],
     level: u32,
     known: &Known<T>,
 ) -> Result<Option<LoopRange<T>>, Want>
     requires functions { functions ≡ length banks.now }
-    requires banks { AreBanksFor T.Theory problem.now limits.now known.now.points level banks.now }
-    requires room { length known.now.stored.items < limits.now.rounds }
-    requires opened { IsOpenNumber reach (question_of T.denotes problem.now) limits.now.size
+    requires banks { AreBanksFor T.Theory task.now known.now.points level banks.now }
+    requires room { length known.now.stored.items < task.now.limits.now.rounds }
+    requires opened { IsOpenNumber task.now.reach (question_of T.denotes task.now.problem.now) task.now.limits.now.size
         (history_of T.denotes known.now.stored) level }
-    requires known { IsKnownFor T.Theory reach problem.now limits.now known.now }
+    requires known { IsKnownFor T.Theory task.now known.now }
     ensures { IfOk result (λ found. MatchOption found (DroppedNothing (map (merged_of T.denotes) banks.now))
-        (LeavesFor T.Theory reach problem.now limits.now known.now.stored)) }
+        (LeavesFor T.Theory task.now.reach task.now.problem.now task.now.limits.now known.now.stored)) }
 {
     for function in 0..functions {
         let Some(bank) = banks.get(function as usize) else {
             unreachable!();
         };
-        if let Some(left) = term_of(alloc, function, bank)? {
+        if let Some(left) = term_of(task.alloc, function, bank)? {
             return Ok(Some(left));
         }
     }

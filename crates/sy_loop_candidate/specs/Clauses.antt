@@ -1,55 +1,53 @@
--- What clauses say of a problem, for a theory and a solver.
+-- What clauses say of a search, for a theory and a solver.
 use Rattle.std.specs.Prelude.{ℕ, List}
 use Rattle.sy_terms.specs.Expr.{Expr}
 use Rattle.sy_terms.specs.declared.theory.Theory.{Ghosts as TheoryOf}
 use Rattle.sy_grammar_base.specs.Questions.{question_of}
-use Rattle.sy_grammar_base.specs.declared.problem.Problem.{Problem}
-use Rattle.sy_query_limits.specs.declared.Limits.{Limits}
 use Rattle.sy_query_base.specs.declared.decide.Decide.{Ghosts as DecideOf}
 use Rattle.sy_points.specs.Asked.{Asked}
-use Rattle.sy_loop_spec.specs.declared.reach.Reach.{Reach}
 use Rattle.sy_loop_spec.specs.Histories.{IsCandidate, IsDue, IsOpenNumber}
 use Rattle.sy_loop_spec.specs.Stored.{history_of}
 use Rattle.sy_loop_candidate.specs.Going.{Goes}
 use Rattle.sy_loop_truth.specs.Known.{IsKnown}
+use Rattle.sy_loop_truth.specs.declared.task.Search.{Search}
 use Rattle.sy_loop_candidate.specs.Steps.{Decides, IsCandidateEnd, Steps, StepFollows}
 use Rattle.sy_loop_candidate.specs.declared.step.End.{End}
 use Rattle.sy_loop_candidate.specs.declared.step.Known.{Known}
 use Rattle.sy_loop_candidate.specs.declared.step.Step.{Step}
 
-module _ {T N : Type 0} (theory : TheoryOf T N) (reach : Reach) (problem : Problem T N) (limits : Limits) where
+module _ {T N : Type 0} (theory : TheoryOf T N) (task : Search T N) where
   abbrev pub IsKnownFor : Known T N → Type 0
-  IsKnownFor known = IsKnown reach (question_of theory.denotes problem) limits (history_of theory.denotes known.stored) known.points
+  IsKnownFor known = IsKnown task.reach (question_of theory.denotes task.problem.now) task.limits.now (history_of theory.denotes known.stored) known.points
 
   abbrev pub IsCandidateFor : Known T N → List Expr → Type 0
-  IsCandidateFor known = IsCandidate reach (question_of theory.denotes problem) limits.size (history_of theory.denotes known.stored)
+  IsCandidateFor known = IsCandidate task.reach (question_of theory.denotes task.problem.now) task.limits.now.size (history_of theory.denotes known.stored)
 
   abbrev pub IsOpenFor : Known T N → ℕ → Type 0
-  IsOpenFor known = IsOpenNumber reach (question_of theory.denotes problem) limits.size (history_of theory.denotes known.stored)
+  IsOpenFor known = IsOpenNumber task.reach (question_of theory.denotes task.problem.now) task.limits.now.size (history_of theory.denotes known.stored)
 
   abbrev pub IsDueFor : Known T N → List Expr → Type 0
-  IsDueFor known = IsDue reach (question_of theory.denotes problem) limits.size (history_of theory.denotes known.stored)
+  IsDueFor known = IsDue task.reach (question_of theory.denotes task.problem.now) task.limits.now.size (history_of theory.denotes known.stored)
 
-module _ {T N D P S : Type 0} (theory : TheoryOf T N) (solver : DecideOf D T P S N) (reach : Reach) (problem : Problem T N) (limits : Limits) where
+module _ {T N D P S : Type 0} (theory : TheoryOf T N) (solver : DecideOf D T P S N) (task : Search T N) where
   abbrev pub IsEndFor : Known T N → End T P S N → Type 0
   IsEndFor known =
-      IsCandidateEnd theory.owned theory.denotes solver.accepted solver.budget solver.shows reach (question_of theory.denotes problem) limits (history_of theory.denotes known.stored) known.points
+      IsCandidateEnd theory.owned theory.denotes solver.accepted solver.budget solver.shows task.reach (question_of theory.denotes task.problem.now) task.limits.now (history_of theory.denotes known.stored) known.points
 
   abbrev pub StepsFor : List Expr → Known T N → Known T N → Step T P S N → Type 0
   StepsFor bodies before after =
-      Steps theory.owned theory.denotes solver.accepted solver.budget solver.shows reach (question_of theory.denotes problem) limits bodies
+      Steps theory.owned theory.denotes solver.accepted solver.budget solver.shows task.reach (question_of theory.denotes task.problem.now) task.limits.now bodies
       (history_of theory.denotes before.stored) before.points (history_of theory.denotes after.stored) after.points
 
   abbrev pub DecidesFor : List Expr → Known T N → Known T N → Step T P S N → Type 0
   DecidesFor bodies before after =
-      Decides theory.owned theory.denotes solver.accepted solver.budget solver.shows reach (question_of theory.denotes problem) limits bodies
+      Decides theory.owned theory.denotes solver.accepted solver.budget solver.shows task.reach (question_of theory.denotes task.problem.now) task.limits.now bodies
       (history_of theory.denotes before.stored) before.points (history_of theory.denotes after.stored) after.points
 
   abbrev pub GoesFor : Known T N → Known T N → Step T P S N → Type 0
   GoesFor before after =
-      Goes theory.owned theory.denotes solver.accepted solver.budget solver.shows reach (question_of theory.denotes problem) limits
+      Goes theory.owned theory.denotes solver.accepted solver.budget solver.shows task.reach (question_of theory.denotes task.problem.now) task.limits.now
       (history_of theory.denotes before.stored) before.points (history_of theory.denotes after.stored) after.points
 
   abbrev pub StepFollowsFor : ℕ → Asked → Known T N → Step T P S N → Type 0
   StepFollowsFor place points after =
-      StepFollows theory.owned theory.denotes solver.accepted solver.budget solver.shows reach (question_of theory.denotes problem) limits place (history_of theory.denotes after.stored) points after.points
+      StepFollows theory.owned theory.denotes solver.accepted solver.budget solver.shows task.reach (question_of theory.denotes task.problem.now) task.limits.now place (history_of theory.denotes after.stored) points after.points

@@ -12,9 +12,7 @@ use crate::asks::ask_at;
 use crate::copies::{assignment_at, copied_bodies};
 use crate::step::{End, Known, Step};
 use std::alloc::Global;
-use sy_grammar_base::Problem;
-use sy_loop_spec::Reach;
-use sy_loop_truth::Adding;
+use sy_loop_truth::{Adding, Search};
 use sy_query::{Built, build};
 use sy_query_base::{Decide, Limits, Query, Verdict};
 use sy_terms::{Bodies, Theory, Want};
@@ -24,38 +22,35 @@ use sy_terms::{Bodies, Theory, Want};
 /// where memory runs out, where 32 bits don't count a position of the query, and where `decide` answers it; nothing is
 /// promised of what is known then.
 pub fn decide_due<T: Theory, D: Decide<T>>(
-    alloc: Global,
-    problem: &Problem<T>,
-    limits: &Limits,
-    reach: Reach,
+    task: &Search<T>,
     decide: &mut D,
     bodies: Bodies<T>,
     known: &mut Known<T>,
 ) -> Result<Step<T, D::Proof, D::Spent>, Want>
-    requires problem { ProblemFits T.Theory problem.now }
-    requires bodies { FitAsBodies T.Theory problem.now bodies }
-    requires known { IsKnownFor T.Theory reach problem.now limits.now known.old }
-    requires room { length known.old.stored.items < limits.now.rounds }
-    requires due { IsDueFor T.Theory reach problem.now limits.now known.old (map (expr_of T.denotes) bodies) }
-    ensures known { OnOk result (IsKnownFor T.Theory reach problem.now limits.now known.new) }
+    requires problem { ProblemFits T.Theory task.now.problem.now }
+    requires bodies { FitAsBodies T.Theory task.now.problem.now bodies }
+    requires known { IsKnownFor T.Theory task.now known.old }
+    requires room { length known.old.stored.items < task.now.limits.now.rounds }
+    requires due { IsDueFor T.Theory task.now known.old (map (expr_of T.denotes) bodies) }
+    ensures known { OnOk result (IsKnownFor T.Theory task.now known.new) }
     ensures grows { OnOk result (TuplesGrow known.old.points known.new.points) }
-    ensures step { IfOk result (DecidesFor T.Theory D.Decide reach problem.now limits.now
+    ensures step { IfOk result (DecidesFor T.Theory D.Decide task.now
         (map (expr_of T.denotes) bodies) known.old known.new) }
 {
-    let query = match build(alloc, problem, &bodies, limits.weight) {
+    let query = match build(task.alloc, task.problem, &bodies, task.limits.weight) {
         Ok(query) => query,
         Err(Built::Heavy) => return Ok(Step::End(End::Weight(bodies))),
         Err(Built::Want) => return Err(Want {}),
     };
-    match decide_query(alloc, limits, decide, query)? {
+    match decide_query(task.alloc, task.limits, decide, query)? {
         Verdict::Never(proof) => Ok(Step::End(End::Found(bodies, proof))),
         Verdict::Model(values) => {
             let place = known.stored.len();
             known.stored.push(values, bodies)?;
-            if known.stored.len() >= limits.rounds as usize {
+            if known.stored.len() >= task.limits.rounds as usize {
                 return Ok(Step::End(End::Rounds));
             }
-            let step = follow::<T, D>(alloc, problem, limits, reach, place, known)?;
+            let step = follow::<T, D>(task, place, known)?;
             Ok(step)
         }
         Verdict::Spent(spent) => Ok(Step::End(End::Decide(bodies, spent))),
@@ -79,32 +74,29 @@ pub fn decide_query<T: Theory, D: Decide<T>>(
 
 /// Adds what the stored bodies of this place ask at their assignment to the points.
 fn follow<T: Theory, D: Decide<T>>(
-    alloc: Global,
-    problem: &Problem<T>,
-    limits: &Limits,
-    reach: Reach,
+    task: &Search<T>,
     place: usize,
     known: &mut Known<T>,
 ) -> Result<Step<T, D::Proof, D::Spent>, Want>
-    requires problem { ProblemFits T.Theory problem.now }
+    requires problem { ProblemFits T.Theory task.now.problem.now }
     requires bodies { (pair : _) → slice_get known.old.stored.items place ≡ Some pair →
-        FitAsBodies T.Theory problem.now pair.1 }
+        FitAsBodies T.Theory task.now.problem.now pair.1 }
     requires place { place < length known.old.stored.items }
-    requires room { length known.old.stored.items < limits.now.rounds }
-    requires known { IsKnownFor T.Theory reach problem.now limits.now known.old }
+    requires room { length known.old.stored.items < task.now.limits.now.rounds }
+    requires known { IsKnownFor T.Theory task.now known.old }
     ensures stored { OnOk result (known.new.stored ≡ known.old.stored) }
-    ensures known { OnOk result (IsKnownFor T.Theory reach problem.now limits.now known.new) }
+    ensures known { OnOk result (IsKnownFor T.Theory task.now known.new) }
     ensures grows { OnOk result (TuplesGrow known.old.points known.new.points) }
     ensures step { IfOk result
-        (StepFollowsFor T.Theory D.Decide reach problem.now limits.now place known.old.points known.new) }
+        (StepFollowsFor T.Theory D.Decide task.now place known.old.points known.new) }
 {
     let Some((_, bodies)) = known.stored.get(place) else {
         unreachable!();
     };
     let asked = ask_at(
-        alloc,
-        problem,
-        limits,
+        task.alloc,
+        task.problem,
+        task.limits,
         bodies,
         &known.stored,
         place,
@@ -117,8 +109,8 @@ fn follow<T: Theory, D: Decide<T>>(
         Adding::There => Ok(Step::Again),
         Adding::New => Ok(Step::Again),
         Adding::Full(function) => {
-            let copy = copied_bodies(alloc, bodies)?;
-            let assignment = assignment_at(alloc, &known.stored, place)?;
+            let copy = copied_bodies(task.alloc, bodies)?;
+            let assignment = assignment_at(task.alloc, &known.stored, place)?;
             Ok(Step::End(End::Points(function, copy, assignment)))
         }
     }

@@ -9,11 +9,9 @@ ghost use Rattle.sy_loop_candidate.specs.Clauses.{IsCandidateFor, IsKnownFor, St
 use crate::copies::assignment_at;
 use crate::due::decide_due;
 use crate::trial::{Trial, try_bodies};
-use std::alloc::Global;
-use sy_grammar_base::Problem;
-use sy_loop_spec::Reach;
+use sy_loop_truth::Search;
 use sy_points::{Points, Stored};
-use sy_query_base::{Decide, Limits};
+use sy_query_base::Decide;
 use sy_terms::{Bodies, Theory, Values, Want};
 
 /// What a search knows: the assignments that refuted candidates, and the tuples that candidates ask for.
@@ -52,49 +50,46 @@ pub enum Step<T: Theory, P: Drop, S: Drop> {
 }
 
 /// Tries the bodies at the stored assignments. Where they meet the problem at each of them, and all that they ask there
-/// is among the points, their query is decided. `reach` says which bodies count as candidates. `Want` comes where
+/// is among the points, their query is decided. `Want` comes where
 /// memory runs out, where 32 bits don't count a position of the query, and where `decide` answers it; nothing is
 /// promised of what is known then.
 pub fn try_candidate<T: Theory, D: Decide<T>>(
-    alloc: Global,
-    problem: &Problem<T>,
-    limits: &Limits,
-    reach: Reach,
+    task: &Search<T>,
     decide: &mut D,
     bodies: Bodies<T>,
     known: &mut Known<T>,
 ) -> Result<Step<T, D::Proof, D::Spent>, Want>
-    requires problem { ProblemFits T.Theory problem.now }
-    requires bodies { FitAsBodies T.Theory problem.now bodies }
-    requires candidate { IsCandidateFor T.Theory reach problem.now limits.now known.old
+    requires problem { ProblemFits T.Theory task.now.problem.now }
+    requires bodies { FitAsBodies T.Theory task.now.problem.now bodies }
+    requires candidate { IsCandidateFor T.Theory task.now known.old
         (map (expr_of T.denotes) bodies) }
-    requires known { IsKnownFor T.Theory reach problem.now limits.now known.old }
-    requires room { length known.old.stored.items < limits.now.rounds }
-    ensures known { OnOk result (IsKnownFor T.Theory reach problem.now limits.now known.new) }
+    requires known { IsKnownFor T.Theory task.now known.old }
+    requires room { length known.old.stored.items < task.now.limits.now.rounds }
+    ensures known { OnOk result (IsKnownFor T.Theory task.now known.new) }
     ensures grows { OnOk result (TuplesGrow known.old.points known.new.points) }
     ensures step { IfOk result
-        (StepsFor T.Theory D.Decide reach problem.now limits.now (map (expr_of T.denotes) bodies) known.old known.new) }
+        (StepsFor T.Theory D.Decide task.now (map (expr_of T.denotes) bodies) known.old known.new) }
 {
     match try_bodies(
-        alloc,
-        problem,
-        limits,
+        task.alloc,
+        task.problem,
+        task.limits,
         &bodies,
         &known.stored,
         &mut known.points,
     )? {
         Trial::Due => {
-            let step = decide_due(alloc, problem, limits, reach, decide, bodies, known)?;
+            let step = decide_due(task, decide, bodies, known)?;
             Ok(step)
         }
         Trial::Refuted => Ok(Step::Next),
         Trial::Asks => Ok(Step::Again),
         Trial::Full(function, place) => {
-            let assignment = assignment_at(alloc, &known.stored, place)?;
+            let assignment = assignment_at(task.alloc, &known.stored, place)?;
             Ok(Step::End(End::Points(function, bodies, assignment)))
         }
         Trial::Leaves(place) => {
-            let assignment = assignment_at(alloc, &known.stored, place)?;
+            let assignment = assignment_at(task.alloc, &known.stored, place)?;
             Ok(Step::End(End::Checked(bodies, assignment)))
         }
     }

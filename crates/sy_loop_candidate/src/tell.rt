@@ -11,9 +11,8 @@ use crate::observe::observe;
 use std::alloc::Global;
 use sy_bank_level::Kept;
 use sy_grammar_base::Problem;
-use sy_loop_truth::is_true;
 use sy_points::Points;
-use sy_terms::{Term, Theory, Value, Want};
+use sy_terms::{Term, Theory, Value, Want, is_true};
 
 /// What rows tell of a term.
 #[derive(Clone, Copy)]

@@ -4,5 +4,6 @@ pub mod Judged
 pub mod Judging
 pub mod Leaves
 pub mod Memos
+pub mod Tasks
 pub mod Telling
 pub mod Tellings

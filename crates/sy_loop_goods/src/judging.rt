@@ -1,27 +1,23 @@
 // Whether constraints are true under a leaf.
-// Functions here have more than seven parameters where clauses name the problem, what is stored, the points and the
-// constraints apart, as those of the crates below do: a record of them would be taken apart at each call.
 ghost use Rattle.std.specs.Prelude.{◌≡◌, [], ◌∷◌, All, IfOk, OnOk, map};
 ghost use Rattle.sy_terms.specs.Denoted.{expr_of, vals_of};
 ghost use Rattle.sy_bank_level.specs.Stored.{entry_of};
-ghost use Rattle.sy_grammar_base.specs.Fits.{IsTruth, ProblemFits};
+ghost use Rattle.sy_grammar_base.specs.Fits.{IsTruth};
 ghost use Rattle.sy_grammar_base.specs.Questions.{question_of};
 ghost use Rattle.sy_grammar_base.specs.Solving.{AreValues};
-ghost use Rattle.sy_loop_spec.specs.Pointwise.{IsPointwise};
-ghost use Rattle.sy_loop_truth.specs.Clauses.{FitAsBodies};
-ghost use Rattle.sy_loop_truth.specs.Clauses.{AreAssignedFor, IsRestFor};
+ghost use Rattle.sy_loop_truth.specs.Clauses.{FitAsBodies, IsRestFor};
 ghost use Rattle.sy_loop_goods.specs.Clauses.{IsMemoFor, IsRowFor, JudgesFor};
+ghost use Rattle.sy_loop_goods.specs.Tasks.{IsJudgeable};
 ghost use Rattle.sy_loop_goods.specs.Telling.{TellsTruth};
 
 use crate::Memo;
 use crate::recall::{judged_by, value_at};
+use crate::task::LeafTask;
 use std::alloc::{AllocError, Global};
 use sy_bank_level::Kept;
-use sy_grammar_base::Problem;
-use sy_loop_truth::{Rest, is_true};
+use sy_loop_truth::Rest;
 use sy_meaning::{Eval, Trace, evaluate_with};
-use sy_points::{Points, Stored};
-use sy_terms::{Bodies, Seq, Term, Theory, Value, Want};
+use sy_terms::{Bodies, Seq, Term, Theory, Value, Want, is_true};
 
 /// Whether constraints are true under bodies, each at a stored assignment.
 #[derive(Clone, Copy)]
@@ -47,29 +43,24 @@ pub(crate) fn body_of<T: Theory>(alloc: Global, kept: &Kept<T>) -> Result<Bodies
 /// Whether these constraints are true under the kept term as the one body, each at its stored assignment. What they
 /// tell is added to the memo.
 pub(crate) fn judge<T: Theory>(
-    alloc: Global,
-    problem: &Problem<T>,
-    stored: &Stored<T>,
-    points: &Points<T>,
+    task: &LeafTask<T>,
     rests: &[Rest],
     kept: &Kept<T>,
     bodies: &Bodies<T>,
     memo: &mut Memo<T>,
 ) -> Result<Judged, Want>
-    requires problem { ProblemFits T.Theory problem.now }
-    requires pointwise { IsPointwise (question_of T.denotes problem.now) }
-    requires assigned { AreAssignedFor T.Theory problem.now stored.now }
-    requires bodies { FitAsBodies T.Theory problem.now bodies.now }
+    requires task { IsJudgeable T.Theory task.now }
+    requires bodies { FitAsBodies T.Theory task.now.problem.now bodies.now }
     requires body { map (expr_of T.denotes) bodies.now ≡ (entry_of T.denotes kept.now).term ∷ [] }
-    requires rests { All (IsRestFor T.Theory problem.now stored.now points.now) rests.now }
-    requires row { IsRowFor T.Theory problem.now points.now (entry_of T.denotes kept.now) }
-    requires memo { IsMemoFor T.Theory problem.now memo.old }
-    ensures judged { IfOk result
-        (JudgesFor T.Theory problem.now stored.now (map (expr_of T.denotes) bodies.now) rests.now) }
-    ensures memo { OnOk result (IsMemoFor T.Theory problem.now memo.new) }
+    requires rests { All (IsRestFor T.Theory task.now.problem.now task.now.stored.now task.now.points.now) rests.now }
+    requires row { IsRowFor T.Theory task.now.problem.now task.now.points.now (entry_of T.denotes kept.now) }
+    requires memo { IsMemoFor T.Theory task.now.problem.now memo.old }
+    ensures judged { IfOk result (JudgesFor T.Theory task.now.problem.now task.now.stored.now
+        (map (expr_of T.denotes) bodies.now) rests.now) }
+    ensures memo { OnOk result (IsMemoFor T.Theory task.now.problem.now memo.new) }
 {
     for rest in rests {
-        match judge_one(alloc, problem, stored, points, rest, kept, bodies, memo)? {
+        match judge_one(task, rest, kept, bodies, memo)? {
             Judged::Good => {}
             Judged::Bad => return Ok(Judged::Bad),
             Judged::Leaves(place) => return Ok(Judged::Leaves(place)),
@@ -81,35 +72,30 @@ pub(crate) fn judge<T: Theory>(
 /// Whether this constraint is true under the kept term as the one body, at its stored assignment. What it tells is
 /// added to the memo.
 fn judge_one<T: Theory>(
-    alloc: Global,
-    problem: &Problem<T>,
-    stored: &Stored<T>,
-    _points: &Points<T>,
+    task: &LeafTask<T>,
     rest: &Rest,
     kept: &Kept<T>,
     bodies: &Bodies<T>,
     memo: &mut Memo<T>,
 ) -> Result<Judged, Want>
-    requires problem { ProblemFits T.Theory problem.now }
-    requires pointwise { IsPointwise (question_of T.denotes problem.now) }
-    requires assigned { AreAssignedFor T.Theory problem.now stored.now }
-    requires bodies { FitAsBodies T.Theory problem.now bodies.now }
+    requires task { IsJudgeable T.Theory task.now }
+    requires bodies { FitAsBodies T.Theory task.now.problem.now bodies.now }
     requires body { map (expr_of T.denotes) bodies.now ≡ (entry_of T.denotes kept.now).term ∷ [] }
-    requires rest { IsRestFor T.Theory problem.now stored.now _points.now rest.now }
-    requires row { IsRowFor T.Theory problem.now _points.now (entry_of T.denotes kept.now) }
-    requires memo { IsMemoFor T.Theory problem.now memo.old }
-    ensures judged { IfOk result
-        (JudgesFor T.Theory problem.now stored.now (map (expr_of T.denotes) bodies.now) (rest.now ∷ [])) }
-    ensures memo { OnOk result (IsMemoFor T.Theory problem.now memo.new) }
+    requires rest { IsRestFor T.Theory task.now.problem.now task.now.stored.now task.now.points.now rest.now }
+    requires row { IsRowFor T.Theory task.now.problem.now task.now.points.now (entry_of T.denotes kept.now) }
+    requires memo { IsMemoFor T.Theory task.now.problem.now memo.old }
+    ensures judged { IfOk result (JudgesFor T.Theory task.now.problem.now task.now.stored.now
+        (map (expr_of T.denotes) bodies.now) (rest.now ∷ [])) }
+    ensures memo { OnOk result (IsMemoFor T.Theory task.now.problem.now memo.new) }
 {
-    let Some(constraint) = problem.constraints.get(rest.constraint) else {
+    let Some(constraint) = task.problem.constraints.get(rest.constraint) else {
         unreachable!();
     };
-    let Some((assignment, _)) = stored.get(rest.place) else {
+    let Some((assignment, _)) = task.stored.get(rest.place) else {
         unreachable!();
     };
     let values = assignment.as_slice();
-    let Some(truth) = tell(alloc, problem, bodies, values, constraint)? else {
+    let Some(truth) = tell(task, bodies, values, constraint)? else {
         return Ok(Judged::Leaves(rest.place));
     };
     if let Some(value) = value_at::<T>(kept, rest.point) {
@@ -120,21 +106,27 @@ fn judge_one<T: Theory>(
 
 /// Whether the constraint is true under the bodies at these values; `None` where it leaves the 128 bits.
 fn tell<T: Theory>(
-    alloc: Global,
-    problem: &Problem<T>,
+    task: &LeafTask<T>,
     bodies: &Bodies<T>,
     values: &[Value<T::Num>],
     constraint: &Term<T>,
 ) -> Result<Option<bool>, Want>
-    requires problem { ProblemFits T.Theory problem.now }
-    requires bodies { FitAsBodies T.Theory problem.now bodies.now }
-    requires values { AreValues problem.now.vars (vals_of T.denotes values.now) }
-    requires constraint { IsTruth T.owned T.denotes problem.now constraint.now }
-    ensures { IfOk result (TellsTruth (question_of T.denotes problem.now)
+    requires task { IsJudgeable T.Theory task.now }
+    requires bodies { FitAsBodies T.Theory task.now.problem.now bodies.now }
+    requires values { AreValues task.now.problem.now.vars (vals_of T.denotes values.now) }
+    requires constraint { IsTruth T.owned T.denotes task.now.problem.now constraint.now }
+    ensures { IfOk result (TellsTruth (question_of T.denotes task.now.problem.now)
         (map (expr_of T.denotes) bodies.now) (vals_of T.denotes values.now) (expr_of T.denotes constraint.now)) }
 {
-    let mut calls = Trace::new(alloc);
-    match evaluate_with(alloc, &problem.defs, bodies, values, constraint, &mut calls) {
+    let mut calls = Trace::new(task.alloc);
+    match evaluate_with(
+        task.alloc,
+        &task.problem.defs,
+        bodies,
+        values,
+        constraint,
+        &mut calls,
+    ) {
         Ok(value) => Ok(Some(is_true::<T>(&value))),
         Err(Eval::Range) => Ok(None),
         Err(Eval::Want) => Err(AllocError),

@@ -8,6 +8,8 @@ mod memo;
 mod page;
 mod recall;
 mod rows;
+mod task;
 
 pub use goods::{Goods, Leaving, good_rows};
 pub use memo::Memo;
+pub use task::LeafTask;

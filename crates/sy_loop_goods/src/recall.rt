@@ -8,30 +8,27 @@ ghost use Rattle.sy_loop_goods.specs.Judged as spec;
 
 use crate::Memo;
 use crate::judging::Judged;
+use crate::task::LeafTask;
 use sy_bank_level::Kept;
-use sy_grammar_base::Problem;
 use sy_loop_truth::Rest;
-use sy_points::{Points, Stored};
 use sy_terms::{Theory, Value};
 
 /// Whether all of these constraints are true under the kept term, each at its stored assignment; `None` where one comes
 /// first of which the memo says nothing.
 pub(crate) fn recall<T: Theory>(
-    problem: &Problem<T>,
-    stored: &Stored<T>,
-    points: &Points<T>,
+    task: &LeafTask<T>,
     rests: &[Rest],
     kept: &Kept<T>,
     memo: &Memo<T>,
 ) -> Option<bool>
-    requires rests { All (IsRestFor T.Theory problem.now stored.now points.now) rests.now }
-    requires row { IsRowFor T.Theory problem.now points.now (entry_of T.denotes kept.now) }
-    requires memo { IsMemoFor T.Theory problem.now memo.now }
-    ensures { IfSome result (λ good. JudgesFor T.Theory problem.now stored.now ((entry_of T.denotes kept.now).term ∷
-        []) rests.now (spec.judged_by good)) }
+    requires rests { All (IsRestFor T.Theory task.now.problem.now task.now.stored.now task.now.points.now) rests.now }
+    requires row { IsRowFor T.Theory task.now.problem.now task.now.points.now (entry_of T.denotes kept.now) }
+    requires memo { IsMemoFor T.Theory task.now.problem.now memo.now }
+    ensures { IfSome result (λ good. JudgesFor T.Theory task.now.problem.now task.now.stored.now
+        ((entry_of T.denotes kept.now).term ∷ []) rests.now (spec.judged_by good)) }
 {
     for rest in rests {
-        if !recall_one(problem, stored, points, rest, kept, memo)? {
+        if !recall_one(task, rest, kept, memo)? {
             return Some(false);
         }
     }
@@ -41,20 +38,18 @@ pub(crate) fn recall<T: Theory>(
 /// Whether this constraint is true under the kept term, at its stored assignment; `None` where the memo says nothing of
 /// it.
 fn recall_one<T: Theory>(
-    _problem: &Problem<T>,
-    stored: &Stored<T>,
-    _points: &Points<T>,
+    task: &LeafTask<T>,
     rest: &Rest,
     kept: &Kept<T>,
     memo: &Memo<T>,
 ) -> Option<bool>
-    requires rest { IsRestFor T.Theory _problem.now stored.now _points.now rest.now }
-    requires row { IsRowFor T.Theory _problem.now _points.now (entry_of T.denotes kept.now) }
-    requires memo { IsMemoFor T.Theory _problem.now memo.now }
-    ensures { IfSome result (λ truth. JudgesFor T.Theory _problem.now stored.now ((entry_of T.denotes kept.now).term ∷
-        []) (rest.now ∷ []) (spec.judged_by truth)) }
+    requires rest { IsRestFor T.Theory task.now.problem.now task.now.stored.now task.now.points.now rest.now }
+    requires row { IsRowFor T.Theory task.now.problem.now task.now.points.now (entry_of T.denotes kept.now) }
+    requires memo { IsMemoFor T.Theory task.now.problem.now memo.now }
+    ensures { IfSome result (λ truth. JudgesFor T.Theory task.now.problem.now task.now.stored.now
+        ((entry_of T.denotes kept.now).term ∷ []) (rest.now ∷ []) (spec.judged_by truth)) }
 {
-    let (assignment, _) = stored.get(rest.place)?;
+    let (assignment, _) = task.stored.get(rest.place)?;
     let value = value_at::<T>(kept, rest.point)?;
     memo.truth(rest.constraint, rest.place, assignment.as_slice(), &value)
 }

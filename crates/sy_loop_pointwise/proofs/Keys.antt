@@ -2,7 +2,8 @@
 use Rattle.std.proofs.Common.{◌≡◌, ℕ, ◌+◌, ◌<◌, ◌≤◌, List, length, ap, sym, ◌∙◌, get_or}
 use Rattle.std.specs.Prelude.{drop}
 use Rattle.std.proofs.lemmas.List.{drop_more, drop_all}
-use Rattle.sy_loop_pointwise.specs.Keys.{mixed, all_mixed}
+use Rattle.sy_seq.specs.Mixing.{mixed}
+use Rattle.sy_loop_pointwise.specs.Keys.{all_mixed}
 
 pub mixed-next : (seed : ℕ) (numbers : List ℕ) (i number : ℕ) → i < length numbers → number ≡ get_or numbers i 0 → all_mixed seed (drop i numbers) ≡ all_mixed (mixed seed number) (drop (i + 1) numbers)
 unfolding all_mixed

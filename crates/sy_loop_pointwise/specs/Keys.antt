@@ -1,11 +1,8 @@
 -- Numbers by which shapes are found.
 use Rattle.std.specs.Prelude.{ℕ, ◌+◌, ◌*◌, ◌%◌, ◌^◌, List, [], ◌∷◌}
+use Rattle.sy_seq.specs.Mixing.{mixed}
 use Rattle.sy_grammar_base.specs.Trees.{value_magnitude}
 use Rattle.sy_loop_pointwise.specs.Shapes.{Shape, Fixed, Argument, Applied, Called}
-
--- a number for two numbers
-abbrev pub mixed : ℕ → ℕ → ℕ
-mixed seed number = ((seed * 11400714819323198485) % 2 ^ 64 + number) % 2 ^ 64
 
 -- a number for a number and a list
 unfoldable pub all_mixed : ℕ → List ℕ → ℕ

@@ -4,14 +4,8 @@ ghost use Rattle.sy_terms.specs.Denoted.{val_of};
 ghost use Rattle.sy_grammar_base.specs.Trees.{value_magnitude};
 ghost use Rattle.sy_loop_pointwise.specs.Keys as spec;
 
+use sy_seq::mix;
 use sy_terms::{Theory, Value};
-
-/// A number for both numbers.
-pub(crate) fn mixed(seed: u64, number: u64) -> u64
-    ensures { result ≡ spec.mixed seed number }
-{
-    seed.wrapping_mul(11400714819323198485).wrapping_add(number)
-}
 
 /// A number for the seed and the list.
 pub(crate) fn all_mixed(seed: u64, numbers: &[u32]) -> u64
@@ -19,7 +13,7 @@ pub(crate) fn all_mixed(seed: u64, numbers: &[u32]) -> u64
 {
     let mut key = seed;
     for number in numbers {
-        key = mixed(key, u64::from(*number));
+        key = mix(key, u64::from(*number));
     }
     key
 }

@@ -1,6 +1,4 @@
 // Where constraints rest at stored assignments.
-// Functions here have more than seven parameters where clauses name the problem, what is stored, the points and the
-// constraints apart, as those of the crates below do: a record of them would be taken apart at each call.
 ghost use Rattle.std.specs.Prelude.{◌+◌, ◌≡◌, ◌<◌, length, Contains, IfOk, OnOk, Some, slice_get};
 ghost use Rattle.sy_terms.specs.Denoted.{vals_of};
 ghost use Rattle.sy_grammar_base.specs.Fits.{ProblemFits};
@@ -13,11 +11,8 @@ ghost use Rattle.sy_loop_pointwise.specs.Clauses.{PlacesFor, RestsFor, WidensByR
 
 use crate::posed::Posed;
 use crate::rest::{Rested, rest_of};
-use std::alloc::Global;
-use sy_grammar_base::Problem;
-use sy_loop_truth::{Rest, point_of};
+use sy_loop_truth::{Rest, Search, point_of};
 use sy_points::{Added, Points, Stored};
-use sy_query_base::Limits;
 use sy_terms::{Theory, Value, Want};
 
 /// What becomes of the tuples on which constraints rest at stored assignments.
@@ -48,27 +43,23 @@ pub(crate) enum Placed {
 
 /// Adds each tuple on which a constraint rests at a stored assignment to the points of the function to be found.
 pub fn rest_all<T: Theory>(
-    alloc: Global,
-    problem: &Problem<T>,
-    limits: &Limits,
+    task: &Search<T>,
     posed: &[Posed<T>],
     stored: &Stored<T>,
     points: &mut Points<T>,
 ) -> Result<Resting, Want>
-    requires problem { ProblemFits T.Theory problem.now }
-    requires pointwise { IsPointwise (question_of T.denotes problem.now) }
-    requires posed { ArePosed (question_of T.denotes problem.now) posed.now }
-    requires held { IsHeldFor T.Theory problem.now limits.now stored.now points.old }
-    ensures held { OnOk result (IsHeldFor T.Theory problem.now limits.now stored.now points.new) }
-    ensures widens { OnOk result (WidensByRestsFor T.Theory problem.now stored.now points.old points.new) }
-    ensures answer { IfOk result (RestsFor T.Theory problem.now stored.now points.old points.new) }
+    requires problem { ProblemFits T.Theory task.now.problem.now }
+    requires pointwise { IsPointwise (question_of T.denotes task.now.problem.now) }
+    requires posed { ArePosed (question_of T.denotes task.now.problem.now) posed.now }
+    requires held { IsHeldFor T.Theory task.now.problem.now task.now.limits.now stored.now points.old }
+    ensures held { OnOk result (IsHeldFor T.Theory task.now.problem.now task.now.limits.now stored.now points.new) }
+    ensures widens { OnOk result (WidensByRestsFor T.Theory task.now.problem.now stored.now points.old points.new) }
+    ensures answer { IfOk result (RestsFor T.Theory task.now.problem.now stored.now points.old points.new) }
 {
-    let mut rests = Vec::new(alloc);
+    let mut rests = Vec::new(task.alloc);
     let mut new = false;
     for place in 0..stored.len() {
-        let placed = rest_at(
-            alloc, problem, limits, posed, stored, place, points, &mut rests,
-        )?;
+        let placed = rest_at(task, posed, stored, place, points, &mut rests)?;
         match placed {
             Placed::There => {}
             Placed::New => new = true,
@@ -84,30 +75,26 @@ pub fn rest_all<T: Theory>(
 
 /// The same at the stored assignment of this place.
 fn rest_at<T: Theory>(
-    alloc: Global,
-    problem: &Problem<T>,
-    limits: &Limits,
+    task: &Search<T>,
     posed: &[Posed<T>],
     stored: &Stored<T>,
     place: usize,
     points: &mut Points<T>,
     rests: &mut Vec<Rest>,
 ) -> Result<Placed, Want>
-    requires problem { ProblemFits T.Theory problem.now }
-    requires pointwise { IsPointwise (question_of T.denotes problem.now) }
-    requires posed { ArePosed (question_of T.denotes problem.now) posed.now }
+    requires problem { ProblemFits T.Theory task.now.problem.now }
+    requires pointwise { IsPointwise (question_of T.denotes task.now.problem.now) }
+    requires posed { ArePosed (question_of T.denotes task.now.problem.now) posed.now }
     requires place { place < length stored.now.items }
-    requires held { IsHeldFor T.Theory problem.now limits.now stored.now points.old }
-    ensures held { OnOk result (IsHeldFor T.Theory problem.now limits.now stored.now points.new) }
-    ensures widens { OnOk result (WidensByRestsFor T.Theory problem.now stored.now points.old points.new) }
-    ensures answer { IfOk result (PlacesFor T.Theory problem.now stored.now place place 0
+    requires held { IsHeldFor T.Theory task.now.problem.now task.now.limits.now stored.now points.old }
+    ensures held { OnOk result (IsHeldFor T.Theory task.now.problem.now task.now.limits.now stored.now points.new) }
+    ensures widens { OnOk result (WidensByRestsFor T.Theory task.now.problem.now stored.now points.old points.new) }
+    ensures answer { IfOk result (PlacesFor T.Theory task.now.problem.now stored.now place place 0
         (place + 1) 0 points.old rests.old.items points.new rests.new.items) }
 {
     let mut new = false;
     for number in 0..posed.len() {
-        let placed = rest_one(
-            alloc, problem, limits, posed, number, stored, place, points, rests,
-        )?;
+        let placed = rest_one(task, posed, number, stored, place, points, rests)?;
         match placed {
             Placed::There => {}
             Placed::New => new = true,
@@ -123,9 +110,7 @@ fn rest_at<T: Theory>(
 
 /// The same of the constraint of this number.
 fn rest_one<T: Theory>(
-    alloc: Global,
-    problem: &Problem<T>,
-    limits: &Limits,
+    task: &Search<T>,
     posed: &[Posed<T>],
     number: usize,
     stored: &Stored<T>,
@@ -133,21 +118,26 @@ fn rest_one<T: Theory>(
     points: &mut Points<T>,
     rests: &mut Vec<Rest>,
 ) -> Result<Placed, Want>
-    requires problem { ProblemFits T.Theory problem.now }
-    requires pointwise { IsPointwise (question_of T.denotes problem.now) }
-    requires posed { ArePosed (question_of T.denotes problem.now) posed.now }
+    requires problem { ProblemFits T.Theory task.now.problem.now }
+    requires pointwise { IsPointwise (question_of T.denotes task.now.problem.now) }
+    requires posed { ArePosed (question_of T.denotes task.now.problem.now) posed.now }
     requires number { number < length posed.now }
     requires place { place < length stored.now.items }
-    requires held { IsHeldFor T.Theory problem.now limits.now stored.now points.old }
-    ensures held { OnOk result (IsHeldFor T.Theory problem.now limits.now stored.now points.new) }
-    ensures widens { OnOk result (WidensByRestsFor T.Theory problem.now stored.now points.old points.new) }
-    ensures answer { IfOk result (PlacesFor T.Theory problem.now stored.now place place number place
+    requires held { IsHeldFor T.Theory task.now.problem.now task.now.limits.now stored.now points.old }
+    ensures held { OnOk result (IsHeldFor T.Theory task.now.problem.now task.now.limits.now stored.now points.new) }
+    ensures widens { OnOk result (WidensByRestsFor T.Theory task.now.problem.now stored.now points.old points.new) }
+    ensures answer { IfOk result (PlacesFor T.Theory task.now.problem.now stored.now place place number place
         (number + 1) points.old rests.old.items points.new rests.new.items) }
 {
     let Some((assignment, _)) = stored.get(place) else {
         unreachable!();
     };
-    let rested = rest_of(alloc, problem, &posed[number], assignment.as_slice())?;
+    let rested = rest_of(
+        task.alloc,
+        task.problem,
+        &posed[number],
+        assignment.as_slice(),
+    )?;
     let tuple = match rested {
         Rested::Nowhere => return Ok(Placed::There),
         Rested::Leaves => return Ok(Placed::Leaves),

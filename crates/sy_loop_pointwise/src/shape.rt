@@ -3,7 +3,8 @@ ghost use Rattle.std.specs.Prelude.{◌≡◌, ◌↔◌, IsTrue};
 ghost use Rattle.sy_loop_pointwise.specs.Denoted.{shape_of};
 ghost use Rattle.sy_loop_pointwise.specs.Keys.{key_of};
 
-use crate::key::{all_mixed, code, mixed};
+use crate::key::{all_mixed, code};
+use sy_seq::mix;
 use sy_terms::{Fun, Op, Seq, Theory, Value, same_value};
 
 /// A subterm whose own subterms stand as numbers.
@@ -39,7 +40,7 @@ impl<T: Theory> Shape<T> {
     {
         match self {
             Shape::Const(value) => code::<T>(value),
-            Shape::Var(position) => mixed(1, u64::from(*position)),
+            Shape::Var(position) => mix(1, u64::from(*position)),
             Shape::App(_, numbers) => all_mixed(2, numbers.as_slice()),
             Shape::Call(_, numbers) => all_mixed(3, numbers.as_slice()),
         }

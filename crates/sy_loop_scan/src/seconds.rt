@@ -5,6 +5,7 @@ use crate::point::Point;
 use crate::words::{other_part, pair_value, single_value};
 use std::alloc::Global;
 use std::collections::HashMap;
+use sy_seq::mix;
 use sy_terms::Want;
 
 /// Second parts, ready for one operation at so many points.
@@ -61,7 +62,7 @@ impl Seconds {
         for point in points {
             let value = point.value(operation.first, first)?;
             let other = other_part(&operation.operator, operation.bits, value, point.wanted)?;
-            hash = mixed(hash, other);
+            hash = mix(hash, other);
         }
         let second = self.table.get(&hash)?;
         Some(*second)
@@ -92,12 +93,6 @@ impl Seconds {
     }
 }
 
-/// A number for both numbers.
-fn mixed(seed: u64, number: u64) -> u64 {
-    let product = (seed ^ number).wrapping_mul(11400714819323198485);
-    product ^ (product >> 32)
-}
-
 /// The first kept terms with each row of values, by numbers of these.
 fn table_of(
     alloc: Global,
@@ -119,7 +114,7 @@ fn table_of(
 fn row_hash(points: &[Point], pool: usize, place: usize) -> Option<u64> {
     let mut hash = 0;
     for point in points {
-        hash = mixed(hash, point.value(pool, place)?);
+        hash = mix(hash, point.value(pool, place)?);
     }
     Some(hash)
 }

@@ -1,6 +1,5 @@
 // Whether terms are true under bodies at an assignment.
-ghost use Rattle.std.specs.Prelude.{◌≡◌, ◌↔◌, IsTrue, true, map, All, IfOk};
-ghost use Rattle.sy_terms.specs.Values as spec;
+ghost use Rattle.std.specs.Prelude.{map, All, IfOk};
 ghost use Rattle.sy_terms.specs.Denoted.{val_of, expr_of, vals_of};
 ghost use Rattle.sy_grammar_base.specs.Questions.{question_of};
 ghost use Rattle.sy_grammar_base.specs.Solving.{AreValues};
@@ -11,7 +10,7 @@ ghost use Rattle.sy_loop_truth.specs.Clauses.{FitAsBodies};
 use std::alloc::Global;
 use sy_grammar_base::Problem;
 use sy_meaning::{Eval, Trace, evaluate_with};
-use sy_terms::{Bodies, Term, Theory, Value, Want};
+use sy_terms::{Bodies, Term, Theory, Value, Want, is_true};
 
 /// Whether something is true under bodies at an assignment.
 #[derive(Drop)]
@@ -115,15 +114,5 @@ fn decided<T: Theory>(value: &Value<T::Num>, calls: Trace<T>) -> Truth<T>
         Truth::True
     } else {
         Truth::False(calls)
-    }
-}
-
-/// Whether the value is true.
-pub fn is_true<T: Theory>(value: &Value<T::Num>) -> bool
-    ensures { IsTrue result ↔ val_of T.denotes value.now ≡ spec.Truth true }
-{
-    match value {
-        Value::Truth(truth) => *truth,
-        Value::Num(_) => false,
     }
 }

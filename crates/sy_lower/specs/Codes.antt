@@ -2,11 +2,8 @@
 use Rattle.std.specs.Prelude.{ℕ, ◌+◌, ◌-◌, ◌*◌, ◌%◌, ◌^◌, true, false, cond, ℤ, pos, int_lt, unsigned_abs, Option, Some, None}
 use Rattle.sy_terms.specs.Values.{Val, Truth, Whole, Bits}
 use Rattle.sy_terms.specs.Expr.{Expr, Exprs, Constant, Variable, Apply, Invoke, Bind, none, more}
+use Rattle.sy_seq.specs.Mixing.{mixed}
 use Rattle.sy_lower_laws.specs.Lowering.{Pair, operator_code}
-
--- a number for two numbers
-abbrev pub mixed : ℕ → ℕ → ℕ
-mixed seed number = ((seed * 11400714819323198485) % 2 ^ 64 + number) % 2 ^ 64
 
 -- a number for a whole number
 abbrev pub whole_key : ℤ → ℕ

@@ -3,17 +3,12 @@ ghost use Rattle.std.specs.Prelude.{◌≡◌, Option};
 ghost use Rattle.sy_terms.specs.Values.{Whole};
 ghost use Rattle.sy_terms.specs.Denoted.{val_of, expr_of, exprs_of};
 ghost use Rattle.sy_lower_laws.specs.Lowering.{operator_code};
+ghost use Rattle.sy_seq.specs.Mixing.{mixed};
 ghost use Rattle.sy_lower.specs.Codes as spec;
 
 use sy_meaning_integers::IntTheory;
+use sy_seq::mix;
 use sy_terms::{Op, Term, Value};
-
-/// A number for both numbers.
-fn mixed(seed: u64, number: u64) -> u64
-    ensures { result ≡ spec.mixed seed number }
-{
-    seed.wrapping_mul(11400714819323198485).wrapping_add(number)
-}
 
 /// A number for the whole number.
 fn whole_key(number: &i128) -> u64
@@ -72,23 +67,23 @@ fn operator_key(operator: &Op) -> u64
 
 /// A number for the seed and the operator.
 fn operator_seed(seed: u64, operator: &Op) -> u64
-    ensures { result ≡ spec.mixed seed (spec.code_key (operator_code operator.now)) }
+    ensures { result ≡ mixed seed (spec.code_key (operator_code operator.now)) }
 {
-    mixed(seed, operator_key(operator))
+    mix(seed, operator_key(operator))
 }
 
 /// A number for the seed and the constant.
 fn constant_key(seed: u64, value: &Value<i128>) -> u64
-    ensures { result ≡ spec.mixed (spec.mixed seed 20) (spec.value_key (val_of Whole value.now)) }
+    ensures { result ≡ mixed (mixed seed 20) (spec.value_key (val_of Whole value.now)) }
 {
-    mixed(mixed(seed, 20), value_key(value))
+    mix(mix(seed, 20), value_key(value))
 }
 
 /// A number for the seed and the variable.
 fn variable_key(seed: u64, position: u32) -> u64
-    ensures { result ≡ spec.mixed (spec.mixed seed 21) position }
+    ensures { result ≡ mixed (mixed seed 21) position }
 {
-    mixed(mixed(seed, 21), u64::from(position))
+    mix(mix(seed, 21), u64::from(position))
 }
 
 /// A number for the seed and the term, the same for terms that are the same.
@@ -123,5 +118,5 @@ fn terms_key(seed: u64, terms: &[Term<IntTheory>]) -> u64
 pub(crate) fn division_key(dividend: &Term<IntTheory>, divisor: i128) -> u64
     ensures { result ≡ spec.division_key (expr_of Whole dividend.now) divisor }
 {
-    mixed(term_key(0, dividend), whole_key(&divisor))
+    mix(term_key(0, dividend), whole_key(&divisor))
 }

@@ -14,8 +14,8 @@ use crate::progress::Progress;
 use crate::walk::walk;
 use std::alloc::Global;
 use sy_meaning_integers::IntTheory;
-use sy_query_base::{Query, copied_sorts};
-use sy_terms::{Op, Seq, Term, Want};
+use sy_query_base::Query;
+use sy_terms::{Op, Seq, Term, Want, copied_sorts};
 
 /// The side conditions and the lowered body, over the query's variables and the fresh ones.
 fn with_all_sides(progress: Progress, body: Term<IntTheory>) -> Result<Query<IntTheory>, Want>

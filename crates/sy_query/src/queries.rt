@@ -14,7 +14,7 @@ use std::alloc::Global;
 use sy_grammar_base::Problem;
 use sy_query_base::Query;
 use sy_query_violation::violation;
-use sy_terms::{Bodies, Defs, Seq, Sort, Theory, Want};
+use sy_terms::{Bodies, Defs, Theory, Want, copied_sorts};
 
 /// The query of the problem and a body for each function to be found: every assumption, and not every constraint, with
 /// each call replaced by a `let` of its arguments around the called body. An assignment satisfies it exactly where it
@@ -51,7 +51,7 @@ pub fn build<T: Theory>(
         return Err(Built::Want);
     }
     let body = violation(alloc, assumptions.terms, constraints.terms)?;
-    let vars = copied(alloc, vars)?;
+    let vars = copied_sorts(alloc, vars)?;
     Ok(Query { vars, body })
 }
 
@@ -74,15 +74,4 @@ pub fn weigh<T: Theory>(alloc: Global, query: &Query<T>, cap: u32) -> Result<u32
         &mut room,
     )?;
     Ok(cap - room.left.weight as u32)
-}
-
-/// The same sorts, in memory of their own.
-fn copied(alloc: Global, sorts: &[Sort]) -> Result<Seq<Sort>, Want>
-    ensures { IfOk result (λ copy. copy ≡ sorts.now) }
-{
-    let mut copy = Seq::new(alloc);
-    for sort in sorts {
-        copy.push(*sort)?;
-    }
-    Ok(copy)
 }

@@ -1,6 +1,5 @@
 // Queries evaluated at up to 128 assignments.
 ghost use Rattle.std.specs.Prelude.{◌≡◌, true, IsTrue, IfOk, IfSome};
-ghost use Rattle.sy_terms.specs.Values.{Truth};
 ghost use Rattle.sy_terms.specs.Denoted.{val_of, vals_of};
 ghost use Rattle.sy_terms.specs.Theories.{sort_of_value, valid};
 ghost use Rattle.sy_grammar_base.specs.Solving.{AreValues};
@@ -13,7 +12,7 @@ use crate::places::{Shuffle, stepped};
 use std::alloc::Global;
 use sy_meaning::{Eval, evaluate};
 use sy_query_base::Query;
-use sy_terms::{Defs, Seq, Sort, Theory, Value, Values, Want};
+use sy_terms::{Defs, Seq, Sort, Theory, Value, Values, Want, is_true};
 
 /// The most assignments that are tried by steps.
 const TRIES: usize = 64;
@@ -207,11 +206,4 @@ fn holds<T: Theory>(alloc: Global, query: &Query<T>, values: &[Value<T::Num>]) -
         Err(Eval::Range) => Ok(false),
         Err(Eval::Want) => Err(Want {}),
     }
-}
-
-/// Whether the value is true.
-fn is_true<T: Theory>(value: &Value<T::Num>) -> bool
-    ensures { IsTrue result → val_of T.denotes value.now ≡ Truth true }
-{
-    matches!(value, Value::Truth(true))
 }

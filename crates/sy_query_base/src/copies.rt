@@ -3,16 +3,7 @@ ghost use Rattle.std.specs.Prelude.{◌≡◌, IfOk};
 ghost use Rattle.sy_terms.specs.Denoted.{exprs_of};
 
 use std::alloc::Global;
-use sy_terms::{Seq, Sort, Term, Theory, Want};
-
-/// The same sorts, in memory of their own. `Want` comes where memory runs out, and nowhere else.
-pub fn copied_sorts(alloc: Global, sorts: &[Sort]) -> Result<Seq<Sort>, Want>
-    ensures { IfOk result (λ copies. copies ≡ sorts.now) }
-{
-    let mut copies = Vec::with_capacity(alloc, sorts.len())?;
-    copies.extend_from_slice(sorts)?;
-    Ok(Seq::from(copies))
-}
+use sy_terms::{Term, Theory, Want};
 
 /// The same terms, in memory of their own. `Want` comes where memory runs out, and nowhere else.
 pub fn copied_terms<T: Theory>(alloc: Global, terms: &[Term<T>]) -> Result<Vec<Term<T>>, Want>

@@ -6,7 +6,7 @@ mod decide;
 mod query;
 mod verdict;
 
-pub use copies::{copied_sorts, copied_terms};
+pub use copies::copied_terms;
 pub use decide::Decide;
 pub use query::Query;
 pub use sy_query_limits::{FailName, Limits};

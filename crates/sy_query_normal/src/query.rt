@@ -8,8 +8,8 @@ use crate::chains::paired;
 use crate::normal::normal;
 use std::alloc::Global;
 use sy_meaning_words::BvTheory;
-use sy_query_base::{Query, copied_sorts};
-use sy_terms::Want;
+use sy_query_base::Query;
+use sy_terms::{Want, copied_sorts};
 
 /// A query that the same values satisfy, written so that equal terms are more often one term: arguments of `and`, `or`,
 /// `bvand`, `bvor` and `bvxor` stand in one order, terms beside their complements first, and without doubles, as do two

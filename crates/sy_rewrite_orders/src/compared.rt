@@ -7,6 +7,7 @@ ghost use Rattle.sy_rewrite_orders.specs.Alike.{IsAlike, chosen, comparison};
 use crate::terms::binary;
 use std::alloc::Global;
 use sy_terms::{Op, Term, Terms, Theory, Want};
+use sy_terms_operators::compares;
 
 /// The most nodes of a term that is copied to each side of a choice.
 const SMALL: u64 = 4;
@@ -77,23 +78,6 @@ fn sides_compared<T: Theory>(
         return Ok(Some(term));
     }
     Ok(None)
-}
-
-/// Whether the operator compares its two arguments.
-fn compares(operator: Op) -> bool {
-    matches!(
-        operator,
-        Op::Equal
-            | Op::Distinct
-            | Op::BvUlt
-            | Op::BvUle
-            | Op::BvUgt
-            | Op::BvUge
-            | Op::BvSlt
-            | Op::BvSle
-            | Op::BvSgt
-            | Op::BvSge
-    )
 }
 
 /// The comparison with the term, inside the choices that the term begins with.

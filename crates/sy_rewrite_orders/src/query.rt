@@ -11,8 +11,8 @@ use crate::names::{counted, variables};
 use crate::triples::triples;
 use crate::written::written;
 use std::alloc::Global;
-use sy_query_base::{Query, copied_sorts};
-use sy_terms::{Term, Theory, Want};
+use sy_query_base::Query;
+use sy_terms::{Term, Theory, Want, copied_sorts};
 
 /// A query that the same values satisfy. What a `let` gives names to is written in their places where each term has at
 /// most

@@ -12,6 +12,7 @@ use crate::comparisons::truth_at;
 use std::alloc::Global;
 use sy_meaning_words::BvTheory;
 use sy_terms::{Op, Sort, Term, Terms, Value, Want};
+use sy_terms_operators::compares;
 
 /// A term that means the same where the first values are of these sorts, in which comparisons that are decided by
 /// normal forms over these values are truth values.
@@ -93,21 +94,4 @@ fn truth_of(
     };
     let found = truth_at(alloc, sorts, operator, left, right)?;
     Ok(found)
-}
-
-/// Whether the operator compares two arguments of one sort.
-fn compares(operator: Op) -> bool {
-    matches!(
-        operator,
-        Op::Equal
-            | Op::Distinct
-            | Op::BvUlt
-            | Op::BvUle
-            | Op::BvUgt
-            | Op::BvUge
-            | Op::BvSlt
-            | Op::BvSle
-            | Op::BvSgt
-            | Op::BvSge
-    )
 }

@@ -7,8 +7,8 @@ ghost use Rattle.sy_meaning_words.specs.Vectors.{vector};
 use crate::settled::settled;
 use std::alloc::Global;
 use sy_meaning_words::BvTheory;
-use sy_query_base::{Query, copied_sorts};
-use sy_terms::Want;
+use sy_query_base::Query;
+use sy_terms::{Want, copied_sorts};
 
 /// A query that the same values satisfy, in which comparisons of sums and products of the variables are truth values
 /// where the normal form of the difference decides them. `Want` comes where memory runs out, and nowhere else.

@@ -16,14 +16,13 @@ ghost use Rattle.sy_scope_declared.specs.Seen.{context_of, definition_of, sought
 ghost use Rattle.sy_scope_names.specs.Changes as spec;
 
 use crate::context::{Condition, Context, Definition, Sought};
-use crate::invariant::copied;
 use std::alloc::Global;
 use sy_forms_items::{Phrase, ReadEnd};
 use sy_grammar::default_grammar;
 use sy_grammar_base::{Grammar, Problem, Wanted};
 use sy_scope_causes::Cause;
 use sy_scope_names::{nonterminals, sorts_of};
-use sy_terms::{Def, Defs, Logic, Seq, Term, Theory, Want};
+use sy_terms::{Def, Defs, Logic, Seq, Term, Theory, Want, copied_sorts};
 use sy_text_items::Place;
 
 /// How many `check-synth` a file may have.
@@ -183,7 +182,7 @@ impl<T: Theory> Context<T> {
             return Err(Want {});
         };
         let defs = defs_of(alloc, self.definitions.as_slice())?;
-        let vars = copied(alloc, self.variables.as_slice())?;
+        let vars = copied_sorts(alloc, self.variables.as_slice())?;
         let wanted = all_wanted(alloc, self.logic, self.sought.as_slice(), &defs)?;
         let assumptions = terms_of(alloc, outside, self.assumptions.as_slice())?;
         let constraints = constraints_of(alloc, outside, self.constraints.as_slice())?;

@@ -15,7 +15,7 @@ use sy_forms_items::{Entity, Names, ReadEnd, same_sorts};
 use sy_inv::expand;
 use sy_scope_causes::Cause;
 use sy_scope_names::{Spelled, has_room};
-use sy_terms::{Fun, Seq, Sort, Theory, Want, same_sort};
+use sy_terms::{Fun, Seq, Sort, Theory, Want, copied_sorts, same_sort};
 use sy_text_items::Place;
 
 /// A function, and its signature.
@@ -152,15 +152,6 @@ fn invariant_parts(
     })
 }
 
-/// The same sorts, in memory of their own.
-pub(crate) fn copied(alloc: Global, sorts: &[Sort]) -> Result<Seq<Sort>, Want>
-    ensures { IfOk result (λ all. all ≡ sorts.now) }
-{
-    let mut all = Seq::new(alloc);
-    append(&mut all, sorts)?;
-    Ok(all)
-}
-
 impl<T: Theory> Context<T> {
     /// Adds the conditions of an invariant over a state and the next, whose variables are fresh.
     fn add_conditions(&mut self, alloc: Global, state: &[Sort], parts: Parts) -> Result<(), Want>
@@ -219,7 +210,7 @@ impl<T: Theory> Context<T> {
             after: function_named(&self.names, names.after)?,
         };
         let parts = invariant_parts(alloc, names, functions)?;
-        let state = copied(alloc, functions.invariant.takes)?;
+        let state = copied_sorts(alloc, functions.invariant.takes)?;
         if !has_room(&self.names, self.fresh, 2 * state.len()) {
             return Err(ReadEnd::Refused(place, Cause::TooMany));
         }

@@ -8,7 +8,7 @@ use crate::measures::measures_in;
 use std::alloc::Global;
 use sy_forms_items::{Entity, Measures, Names};
 use sy_scope_causes::{Title, Titles};
-use sy_terms::{Def, Defs, Fun, Seq, Sort, Theory, Want};
+use sy_terms::{Def, Defs, Fun, Seq, Sort, Theory, Want, copied_sorts};
 use sy_text_items::Name;
 
 /// What names stand for around the bodies of a problem's functions, and the measures of its definitions. It is made
@@ -29,15 +29,6 @@ fn add_entry(names: &mut Names, name: &[u8], function: Entity) -> Result<(), Wan
     }
     names.add_entity(name, function)?;
     Ok(())
-}
-
-/// The sorts, in memory of their own.
-fn copied_sorts(alloc: Global, sorts: &[Sort]) -> Result<Seq<Sort>, Want>
-    ensures { IfOk result (λ copies. copies ≡ sorts.now) }
-{
-    let mut copies = Vec::with_capacity(alloc, sorts.len())?;
-    copies.extend_from_slice(sorts)?;
-    Ok(Seq::from(copies))
 }
 
 /// The definition of this number, as what a name stands for.

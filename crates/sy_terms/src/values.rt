@@ -1,5 +1,6 @@
-// Values as what they stand for: comparisons and copies.
-ghost use Rattle.std.specs.Prelude.{◌≡◌, ◌↔◌, IsTrue, IfOk};
+// Values as what they stand for: comparisons, truth and copies.
+ghost use Rattle.std.specs.Prelude.{◌≡◌, ◌↔◌, IsTrue, IfOk, true};
+ghost use Rattle.sy_terms.specs.Values.{Truth};
 ghost use Rattle.sy_terms.specs.Denoted.{val_of, vals_of};
 
 use crate::sort::Value;
@@ -24,6 +25,16 @@ pub fn same_values<T: Theory>(a: &[Value<T::Num>], b: &[Value<T::Num>]) -> bool
     a == b
 }
 
+/// Whether the value is true.
+pub fn is_true<T: Theory>(value: &Value<T::Num>) -> bool
+    ensures { IsTrue result ↔ val_of T.denotes value.now ≡ Truth true }
+{
+    match value {
+        Value::Truth(truth) => *truth,
+        Value::Num(_) => false,
+    }
+}
+
 /// The same values, in memory of their own.
 pub fn copied_values<T: Theory>(alloc: Global, values: &[Value<T::Num>]) -> Result<Values<T>, Want>
     ensures { IfOk result (λ copy. copy ≡ values.now) }
@@ -31,4 +42,15 @@ pub fn copied_values<T: Theory>(alloc: Global, values: &[Value<T::Num>]) -> Resu
     let mut copy = Vec::with_capacity(alloc, values.len())?;
     copy.extend_from_slice(values)?;
     Ok(Seq::from(copy))
+}
+
+/// The same tuples of values, in memory of their own. `Want` comes where memory runs out, and nowhere else.
+pub fn copied_tuples<T: Theory>(alloc: Global, tuples: &[Values<T>]) -> Result<Seq<Values<T>>, Want>
+    ensures { IfOk result (λ copies. copies ≡ tuples.now) }
+{
+    let mut copies = Seq::new(alloc);
+    for tuple in tuples {
+        copies.push(copied_values::<T>(alloc, tuple.as_slice())?)?;
+    }
+    Ok(copies)
 }

@@ -1,5 +1,6 @@
 -- What evaluation finds of a term without variables.
-use Rattle.std.proofs.Common.{◌≡◌, refl, ap, subst, ◌∙◌, Bool, true, false, List, [], ◌∷◌, map, Some}
+use Rattle.std.proofs.Common.{◌≡◌, refl, ap, sym, subst, ◌∙◌, Bool, true, false, List, [], ◌∷◌, map, Some}
+use Rattle.std.specs.Prelude.{◌↔◌, IsTrue}
 use Rattle.sy_terms.specs.Values.{Val, Truth, Whole, Bits, truth}
 use Rattle.sy_terms.specs.Denoted.{expr_of}
 use Rattle.sy_terms.specs.Definitions.{signature, bodies, scope_of}
@@ -32,11 +33,13 @@ bodies_total owned number defs (term ∷ terms) (s ∷ wanted) always all fit =
     (body_total owned always (scope_of owned defs) s.takes defined (expr_of number term) s.gives refl all fit.0)
     (bodies_total owned number defs terms wanted always all fit.1)
 
--- what is no truth value isn't true
-pub untrue : (value : Val) → ((b : Bool) → value ≡ Truth b → ⊥) → false ≡ truth value
-untrue (Truth b) is_not = absurd (is_not b refl)
-untrue (Whole z) is_not = refl
-untrue (Bits width n) is_not = refl
+-- what is told of a value is its truth
+pub truth_told : (yes : Bool) (value : Val) → (IsTrue yes ↔ value ≡ Truth true) → yes ≡ truth value
+truth_told true value told = sym (ap truth (told.0 refl))
+truth_told false (Truth true) told = told.1 refl
+truth_told false (Truth false) told = refl
+truth_told false (Whole z) told = refl
+truth_told false (Bits width n) told = refl
 
 contradicts : (b : Bool) → b ≡ true → b ≡ false → ⊥
 contradicts b is not = cc

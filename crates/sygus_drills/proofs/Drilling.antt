@@ -33,8 +33,8 @@ use Rattle.sygus_replies.specs.Answered.{AreRight}
 use Rattle.sygus_replies.specs.Replies.{reply_of}
 use Rattle.sygus_replies.proofs.Steps.{right-more, right-none}
 use Rattle.sygus_words.specs.declared.settings.Mode.TheVariants.{Drill}
-use Rattle.sygus_input.specs.Inputs.{AskDrill}
-use Rattle.sygus_input.proofs.Asking.{one_drill_asked}
+use Rattle.sygus_words.specs.Inputs.{AskDrill}
+use Rattle.sygus_words.proofs.Asking.{one_drill_asked}
 use Rattle.sygus_answers.proofs.Named.{bits_named}
 use Rattle.sygus_answers.specs.Answers.{AreNamedFor}
 use Rattle.sygus_drills.specs.Drills.{Drilled, EndsDrill, IsProblemOf}

@@ -1,6 +1,5 @@
 // Counting the constraints that are true.
 ghost use Rattle.std.specs.Prelude.{◌≡◌, ◌<◌, ◌^◌, [], length, map, count_by, All, IfOk};
-ghost use Rattle.sy_terms.specs.Values as values;
 ghost use Rattle.sy_terms.specs.Denoted.{val_of, expr_of};
 ghost use Rattle.sy_grammar_base.specs.Fits.{ProblemFits, IsTruth};
 ghost use Rattle.sy_grammar_base.specs.Questions.{question_of};
@@ -10,7 +9,7 @@ ghost use Rattle.sygus_drills.specs.Counts.{AlwaysFit, is_met, met_count};
 use std::alloc::Global;
 use sy_grammar_base::Problem;
 use sy_meaning::{Eval, Trace, evaluate_with};
-use sy_terms::{Bodies, Seq, Term, Theory, Value, Values, Want};
+use sy_terms::{Bodies, Seq, Term, Theory, Values, Want, is_true};
 
 /// How many of the constraints are true under the bodies, which are members of the grammars. There are no variables,
 /// and each value of the theory's operators fits the machine's numbers.
@@ -85,15 +84,5 @@ fn holds<T: Theory>(
         Ok(value) => Ok(is_true::<T>(&value)),
         Err(Eval::Range) => unreachable!(),
         Err(Eval::Want) => Err(Want {}),
-    }
-}
-
-/// Whether the value is true.
-fn is_true<T: Theory>(value: &Value<T::Num>) -> bool
-    ensures { result ≡ values.truth (val_of T.denotes value.now) }
-{
-    match value {
-        Value::Truth(truth) => *truth,
-        Value::Num(_) => false,
     }
 }

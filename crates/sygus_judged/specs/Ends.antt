@@ -11,7 +11,7 @@ use Rattle.sy_scope_names.specs.Jobs.{Wish, wished}
 use Rattle.sy_scope_steps.specs.Files.{file_read}
 use Rattle.sygus_answers.specs.declared.answers.Answers.{Answers}
 use Rattle.sygus_answers.specs.declared.answers.Answers.TheVariants.{Idle}
-use Rattle.sygus_input.specs.Inputs.{Names, longest}
+use Rattle.sygus_words.specs.Inputs.{Names, longest}
 use Rattle.sygus_replies.specs.Texts.{too_long_line}
 use Rattle.sygus_words.specs.declared.settings.Settings.{Settings}
 use Rattle.sygus_judged.specs.Judging.{JudgesReplies, WritesVerdicts, WritesLines, WritesLinesCut, replies_read, wants_proofs}

@@ -3,7 +3,7 @@ ghost use Rattle.std.specs.Prelude.{◌≡◌, ◌≤◌, ◌⊎◌, [], length,
 ghost use Rattle.std.specs.Io.KnownBytes.{Appends};
 ghost use Rattle.sy_io.specs.Causes.{Rose};
 ghost use Rattle.sygus_answers.specs.Answers.{replies_of, AreNamedFor};
-ghost use Rattle.sygus_input.specs.Inputs.{judges, longest};
+ghost use Rattle.sygus_words.specs.Inputs.{judges, longest};
 ghost use Rattle.sygus_verdicts.specs.Lines.{memory_line};
 ghost use Rattle.sygus_judged.specs.Ends.{JudgesFile, RefusesFront, RefusesReplies, StopsJudging};
 ghost use Rattle.sygus_judged.specs.Judging.{WritesVerdicts, WritesLines, WritesLinesCut};

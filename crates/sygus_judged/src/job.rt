@@ -15,7 +15,7 @@ ghost use Rattle.sy_reply.specs.Statements.{statement_of};
 ghost use Rattle.sy_scope.specs.Fit.{JobFits, ProblemsFit};
 ghost use Rattle.sy_scope.specs.Read.{wish_in, wish_over};
 ghost use Rattle.sygus_verdicts.specs.Lines.{memory_line};
-ghost use Rattle.sygus_input.specs.Inputs.{judges};
+ghost use Rattle.sygus_words.specs.Inputs.{judges};
 ghost use Rattle.sygus_judged.specs.Claimed.{EndsClaims, EndsReplies, IsTold};
 ghost use Rattle.sygus_judged.specs.Judging as spec;
 

@@ -7,9 +7,9 @@ use Rattle.sy_io.specs.Source.{Holding}
 use Rattle.sy_query_limits.specs.declared.Limits.{Limits}
 use Rattle.sy_scope_steps.specs.Files.{file_read}
 use Rattle.sy_scope_names.specs.Jobs.{Wish, wished}
-use Rattle.sygus_input.specs.Inputs.{AskDrill, AskJudging, AskFile, AskReplies, HasNoInput, HaveNoReading}
-use Rattle.sygus_input.specs.declared.input.InputFault.{InputFault}
-use Rattle.sygus_input.specs.declared.input.InputFault.TheVariants as faults
+use Rattle.sygus_words.specs.Inputs.{AskDrill, AskJudging, AskFile, AskReplies, HasNoInput, HaveNoReading}
+use Rattle.sygus_words.specs.declared.input.InputFault.{InputFault}
+use Rattle.sygus_words.specs.declared.input.InputFault.TheVariants as faults
 use Rattle.sygus_judged.specs.Ends.{EndsJudged, FrontIsRefused, Judges, JudgesFile, RefusesFront, RefusesReplies, StopsJudging}
 use Rattle.sygus_judged.specs.Judging.{WritesVerdicts, WritesLines, WritesLinesCut}
 use Rattle.sygus_replies.specs.Texts.{answer_lines, words_line, read_line, memory_line}

@@ -14,10 +14,10 @@ use Rattle.sygus_words.specs.CommandLine.{IsReading}
 use Rattle.sygus_words.specs.declared.settings.Mode.{Mode}
 use Rattle.sygus_words.specs.declared.settings.Mode.TheVariants.{Solve, Least, Check, Recheck, Clauses, Drill}
 use Rattle.sygus_words.specs.declared.settings.Settings.{Settings}
-use Rattle.sygus_input.specs.Inputs.{AskDrill, AskNoDrill, AskNoJudging, AskFile, AskReplies, HasNoInput, HaveNoReading, Names, judges, longest}
-use Rattle.sygus_input.proofs.Asking.{asks_for, asks_judging}
-use Rattle.sygus_input.specs.declared.input.InputFault.{InputFault}
-use Rattle.sygus_input.specs.declared.input.InputFault.TheVariants as faults
+use Rattle.sygus_words.specs.Inputs.{AskDrill, AskNoDrill, AskNoJudging, AskFile, AskReplies, HasNoInput, HaveNoReading, Names, judges, longest}
+use Rattle.sygus_words.proofs.Asking.{asks_for, asks_judging}
+use Rattle.sygus_words.specs.declared.input.InputFault.{InputFault}
+use Rattle.sygus_words.specs.declared.input.InputFault.TheVariants as faults
 use Rattle.sygus_answers.specs.Answers.{replies_of}
 use Rattle.sygus_answers.specs.declared.answers.Answers.{Answers}
 use Rattle.sygus_answers.specs.Complete.{AreComplete}

@@ -3,9 +3,9 @@ use Rattle.std.specs.Prelude.{ℕ, Bool, ◌≡◌, ◌<◌, ◌≤◌, ◌⊎�
 use Rattle.std.specs.Io.KnownBytes.{Appends}
 use Rattle.sy_io.specs.Causes.{Rose}
 use Rattle.sy_io.specs.Source.{Holding}
-use Rattle.sygus_input.specs.Inputs.{Names, longest}
-use Rattle.sygus_input.specs.declared.input.InputFault.{InputFault}
-use Rattle.sygus_input.specs.declared.input.InputFault.TheVariants as faults
+use Rattle.sygus_words.specs.Inputs.{Names, longest}
+use Rattle.sygus_words.specs.declared.input.InputFault.{InputFault}
+use Rattle.sygus_words.specs.declared.input.InputFault.TheVariants as faults
 use Rattle.sy_query_limits.specs.declared.Limits.{Limits}
 use Rattle.sygus_words.specs.declared.settings.Mode.{Mode}
 use Rattle.sygus_words.specs.declared.settings.Mode.TheVariants.{Solve, Least, Check, Recheck, Clauses, Drill}

@@ -6,7 +6,7 @@ ghost use Rattle.sygus_replies.specs.Answered.{WritesMostFails};
 ghost use Rattle.sygus_replies.specs.Replies.{IsSettled, IsFail};
 ghost use Rattle.sygus_replies.specs.Texts.{answer_lines, words_line, read_line, memory_line};
 ghost use Rattle.sygus_answers.specs.Answers.{replies_of, AreNamedFor};
-ghost use Rattle.sygus_input.specs.Inputs.{AskDrill, AskJudging, AskNoJudging, AskSolving, HaveNoReading};
+ghost use Rattle.sygus_words.specs.Inputs.{AskDrill, AskJudging, AskNoJudging, AskSolving, HaveNoReading};
 ghost use Rattle.sygus_run.specs.Runs.{Answered, EndsWhole, FileIsRefused, GoesWell, IsCutOff, NamesKnown, WantsMemory};
 ghost use Rattle.sygus_run.specs.Runs.{fault_line, fault_status};
 ghost use Rattle.sygus_drills.specs.Drills.{EndsDrill};
@@ -18,9 +18,9 @@ use std::alloc::Global;
 use sy_io::{Sink, Source};
 use sygus_answers::{Answers, Ended, unanswered};
 use sygus_drills::drill;
-use sygus_input::{Input, InputFault, read_input};
 use sygus_judged::judge_file;
 use sygus_solve::answer_file;
+use sygus_words::{Input, InputFault, read_input};
 
 /// Reads the words, then the input, checks the whole file, and answers its problems in order. Each reply goes out
 /// before the next problem is sought. In mode `drill` the file is made from a number, and one line goes out in place of

@@ -2,7 +2,7 @@
 ghost use Rattle.std.specs.Prelude.{◌≡◌, ◌≤◌, ◌⊎◌, ◌++◌, length, All, Any};
 ghost use Rattle.std.specs.Io.KnownBytes.{Appends};
 ghost use Rattle.sy_io.specs.Causes.{Rose};
-ghost use Rattle.sygus_input.specs.Inputs.{longest};
+ghost use Rattle.sygus_words.specs.Inputs.{longest};
 ghost use Rattle.sygus_replies.specs.Answered.{WritesMostFails};
 ghost use Rattle.sygus_replies.specs.Replies.{IsSettled, IsFail};
 ghost use Rattle.sygus_replies.specs.Texts.{answer_lines, memory_line};

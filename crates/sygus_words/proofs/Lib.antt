@@ -1,2 +1,3 @@
+pub mod Asking
 mod Meaning
 pub mod Readings

@@ -1,3 +1,4 @@
 pub mod CommandLine
+pub mod Inputs
 pub mod Numbers
 pub mod Reaches

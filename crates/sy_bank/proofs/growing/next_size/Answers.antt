@@ -6,7 +6,7 @@ use Rattle.sy_terms.specs.Meaning.{functions}
 use Rattle.sy_grammar_base.specs.Grown.{syntax_from, nonterminal_of}
 use Rattle.sy_bank_level.specs.Stored.{entry_of}
 use Rattle.sy_bank_level.specs.Filling.{World}
-use Rattle.sy_bank_level.specs.Places.{places_of}
+use Rattle.sy_seq.specs.Buckets.{values_for}
 use Rattle.sy_bank_level.specs.Task.{level_of, levels_of, level_state_of}
 use Rattle.sy_bank_level.proofs.Next.{steady-begun}
 use Rattle.sy_bank_level.specs.Bank.{merged_of}
@@ -29,7 +29,7 @@ fill-requires-clause-steady g c =
     let wide : c.len.result ≡ length (map (nonterminal_of number) c.args.grammar.now.nons) = c.len.ensures ∙ ap length c.nons.ensures ∙ sym (length-map c.args.grammar.now.nons (nonterminal_of number)) in
     let room : c.args.begun.count ≤ c.args.cap = omega (arith, c.requires.room, c.requires.built.indexed.counted) in
     rw (c.as_slice.ensures, c.as_slice-2.ensures.value, c.in_ok-new.ensures, wide)
-    (steady-begun (scope_of g.T.Theory.owned c.args.defs.now) (syntax_from number c.args.grammar.now) (functions (bodies number c.args.defs.now)) (vals_of number c.args.pool.now) bank c.args.cap (places_of c.args.begun.table) c.args.begun.count
+    (steady-begun (scope_of g.T.Theory.owned c.args.defs.now) (syntax_from number c.args.grammar.now) (functions (bodies number c.args.defs.now)) (vals_of number c.args.pool.now) bank c.args.cap (values_for c.args.begun.table) c.args.begun.count
     c.requires.built.ready c.requires.built.indexed room c.requires.none_lost)
 
 pub returns-in_ok-bank-in-Ok-clause-next : goal.returns-in_ok-bank-in-Ok-clause-next
@@ -70,7 +70,7 @@ returns-in_ok-bank-in-Ok-clause-built g c =
     } in
     record {
       ready = step-ready scope syntax defined pool bank c.args.cap c.len-2.result w s after step c.requires.built.ready c.requires.none_lost (c.len-2.ensures ∙ sym c.as_slice-2.ensures.len ∙ ap length c.as_slice-2.ensures.value ∙ sym (length-map c.args.begun.levels.items (level_of number))) (λ still. c.in-Ok.ensures.filled);
-      indexed = step-indexed scope syntax defined pool bank c.args.cap w s after (places_of c.in_ok-bank-in-Ok.bank.table) c.in_ok-bank-in-Ok.bank.count step (ap places_of c.in_ok-bank-in-Ok.ensures.table) c.in_ok-bank-in-Ok.ensures.count;
+      indexed = step-indexed scope syntax defined pool bank c.args.cap w s after (values_for c.in_ok-bank-in-Ok.bank.table) c.in_ok-bank-in-Ok.bank.count step (ap values_for c.in_ok-bank-in-Ok.ensures.table) c.in_ok-bank-in-Ok.ensures.count;
     }
 
 pub returns-in_ok-bank-in-Err-Enough-clause-next : goal.returns-in_ok-bank-in-Err-Enough-clause-next
@@ -113,7 +113,7 @@ returns-in_ok-bank-in-Err-Enough-clause-built g c =
     } in
     record {
       ready = step-ready scope syntax defined pool bank c.args.cap c.len-2.result w s after step c.requires.built.ready c.requires.none_lost (c.len-2.ensures ∙ sym c.as_slice-2.ensures.len ∙ ap length c.as_slice-2.ensures.value ∙ sym (length-map c.args.begun.levels.items (level_of number))) (λ still. absurd (stop.1 still));
-      indexed = step-indexed scope syntax defined pool bank c.args.cap w s after (places_of c.in_ok-bank-in-Err-Enough.bank.table) c.in_ok-bank-in-Err-Enough.bank.count step (ap places_of c.in_ok-bank-in-Err-Enough.ensures.table) c.in_ok-bank-in-Err-Enough.ensures.count;
+      indexed = step-indexed scope syntax defined pool bank c.args.cap w s after (values_for c.in_ok-bank-in-Err-Enough.bank.table) c.in_ok-bank-in-Err-Enough.bank.count step (ap values_for c.in_ok-bank-in-Err-Enough.ensures.table) c.in_ok-bank-in-Err-Enough.ensures.count;
     }
 
 pub returns-in_ok-bank-in-Err-Full-clause-next : goal.returns-in_ok-bank-in-Err-Full-clause-next

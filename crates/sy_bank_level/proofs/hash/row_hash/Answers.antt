@@ -8,9 +8,9 @@ loop-value-init g c = rw c.from-first.ensures (lanes-first g.T.Theory.denotes c.
 pub loop-value-preserved : goal.loop-value-preserved
 loop-value-preserved g c =
     let l = c.loop-value in
-    rw (c.mixed-next.ensures, c.code.ensures) (l.invariant ∙ lanes-next g.T.Theory.denotes l.first l.second l.third c.args.row.now l.value-index c.value-item.result c.loop-value-test.true c.value-item.is)
+    rw (c.mix-next.ensures, c.code.ensures) (l.invariant ∙ lanes-next g.T.Theory.denotes l.first l.second l.third c.args.row.now l.value-index c.value-item.result c.loop-value-test.true c.value-item.is)
 
 pub returns : goal.returns
 returns g c =
     let l = c.loop-value in
-    rw (c.mixed-2.ensures, c.mixed.ensures) (sym (l.invariant ∙ lanes-last g.T.Theory.denotes l.first l.second l.third c.args.row.now l.value-index c.loop-value-test.false))
+    rw (c.mix-2.ensures, c.mix.ensures) (sym (l.invariant ∙ lanes-last g.T.Theory.denotes l.first l.second l.third c.args.row.now l.value-index c.loop-value-test.false))

@@ -5,7 +5,7 @@ use Rattle.sy_bits_words.proofs.sums.places_key.Goals as goal
 pub loop-place-preserved : goal.loop-place-preserved
 loop-place-preserved c =
     let l = c.loop-place in
-    rw (c.mixed-key.ensures, c.from.ensures) (l.invariant ∙ place-next l.key c.args.places.now l.place-index c.loop-place-test.true)
+    rw (c.mix-key.ensures, c.from.ensures) (l.invariant ∙ place-next l.key c.args.places.now l.place-index c.loop-place-test.true)
 
 pub returns : goal.returns
 returns c =

@@ -5,7 +5,7 @@ use Rattle.sy_linear_known.proofs.key.coefficients_key.Goals as goal
 pub loop-coefficient-preserved : goal.loop-coefficient-preserved
 loop-coefficient-preserved c =
     let l = c.loop-coefficient in
-    rw (c.mixed-key.ensures, c.mixed-begun.ensures, c.from.ensures, c.code.ensures) (l.invariant ∙ key-next l.key c.args.coefficients.now l.coefficient-index c.loop-coefficient-test.true)
+    rw (c.mix-key.ensures, c.mix-begun.ensures, c.from.ensures, c.code.ensures) (l.invariant ∙ key-next l.key c.args.coefficients.now l.coefficient-index c.loop-coefficient-test.true)
 
 pub returns : goal.returns
 returns c =

@@ -12,24 +12,24 @@ use Rattle.sy_loop.proofs.join.decide_term.Goals as goal
 pub decide_due-requires-clause-bodies : goal.decide_due-requires-clause-bodies
 decide_due-requires-clause-bodies g c =
     rw (c.in_ok-push.ensures.ok, c.new-bodies.ensures)
-    (candidate_fits g.T.Theory.owned g.T.Theory.numeric g.T.Theory.denotes c.args.problem.now c.args.reach c.args.limits.now.size (history_of g.T.Theory.denotes c.args.known.now.stored) (c.args.term ∷ []) c.requires.problem g.met.T.Theory.negation c.requires.candidate)
+    (candidate_fits g.T.Theory.owned g.T.Theory.numeric g.T.Theory.denotes c.args.task.now.problem.now c.args.task.now.reach c.args.task.now.limits.now.size (history_of g.T.Theory.denotes c.args.known.now.stored) (c.args.term ∷ []) c.requires.problem g.met.T.Theory.negation c.requires.candidate)
 
 pub decide_due-requires-clause-due : goal.decide_due-requires-clause-due
 decide_due-requires-clause-due g c =
-    let due : IsDue c.args.reach (question_of g.T.Theory.denotes c.args.problem.now) c.args.limits.now.size (history_of g.T.Theory.denotes c.args.known.now.stored) (expr_of g.T.Theory.denotes c.args.term ∷ []) =
+    let due : IsDue c.args.task.now.reach (question_of g.T.Theory.denotes c.args.task.now.problem.now) c.args.task.now.limits.now.size (history_of g.T.Theory.denotes c.args.known.now.stored) (expr_of g.T.Theory.denotes c.args.term ∷ []) =
     record { candidate = c.requires.candidate; meets = c.requires.meets } in
     rw (c.in_ok-push.ensures.ok, c.new-bodies.ensures) due
 
 pub returns-clause-step : goal.returns-clause-step
 returns-clause-step g c =
-    decided_goes g.T.Theory.owned g.T.Theory.denotes g.D.Decide.accepted g.D.Decide.budget g.D.Decide.shows c.args.reach (question_of g.T.Theory.denotes c.args.problem.now) c.args.limits.now (map (expr_of g.T.Theory.denotes) c.push.new.self)
+    decided_goes g.T.Theory.owned g.T.Theory.denotes g.D.Decide.accepted g.D.Decide.budget g.D.Decide.shows c.args.task.now.reach (question_of g.T.Theory.denotes c.args.task.now.problem.now) c.args.task.now.limits.now (map (expr_of g.T.Theory.denotes) c.push.new.self)
     (history_of g.T.Theory.denotes c.args.known.now.stored) (history_of g.T.Theory.denotes c.decide_due.new.known.stored) c.args.known.now.points c.decide_due.new.known.points c.in_ok-step.step c.in_ok-step.ensures.step c.in_ok-step.ensures.grows
 
 pub returns-clause-refuted : goal.returns-clause-refuted
 returns-clause-refuted g c =
-    let question = question_of g.T.Theory.denotes c.args.problem.now in
+    let question = question_of g.T.Theory.denotes c.args.task.now.problem.now in
     let before = history_of g.T.Theory.denotes c.args.known.now.stored in
-    never_next g.T.Theory.owned g.T.Theory.denotes g.D.Decide.accepted g.D.Decide.budget g.D.Decide.shows c.args.reach question c.args.limits.now (IsRefuted question before c.args.known.now.points (expr_of g.T.Theory.denotes c.args.term ∷ []))
+    never_next g.T.Theory.owned g.T.Theory.denotes g.D.Decide.accepted g.D.Decide.budget g.D.Decide.shows c.args.task.now.reach question c.args.task.now.limits.now (IsRefuted question before c.args.known.now.points (expr_of g.T.Theory.denotes c.args.term ∷ []))
     (map (expr_of g.T.Theory.denotes) c.push.new.self) before (history_of g.T.Theory.denotes c.decide_due.new.known.stored) c.args.known.now.points c.decide_due.new.known.points c.in_ok-step.step c.in_ok-step.ensures.step
 
 pub returns-in_err-push-clause-known : goal.returns-in_err-push-clause-known

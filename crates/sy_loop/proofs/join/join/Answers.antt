@@ -20,16 +20,16 @@ on_ok (Err e) p = tt
 pub returns-then-len-eq0-clause-trees : goal.returns-then-len-eq0-clause-trees
 returns-then-len-eq0-clause-trees g c =
     let number = g.T.Theory.denotes in
-    let question = question_of number c.args.problem.now in
+    let question = question_of number c.args.task.now.problem.now in
     let is = tuples_at c.args.known.now.points 0 (tuples_of number c.of.result.now) c.of.ensures.list in
-    none_follow c.args.reach question c.args.limits.now (history_of number c.args.known.now.stored) c.args.known.now.points (assumes_nothing g.T.Theory.owned question c.requires.problem.assumptions) c.args.level (merged_of number c.args.bank.now)
+    none_follow c.args.task.now.reach question c.args.task.now.limits.now (history_of number c.args.known.now.stored) c.args.known.now.points (assumes_nothing g.T.Theory.owned question c.requires.problem.assumptions) c.args.level (merged_of number c.args.bank.now)
     (omega (arith, c.if-len-eq0.true, c.len.ensures, ap length is, length-map c.of.result.now (λ values. vals_of number values)))
 
 pub join_parts-requires-clause-plan : goal.join_parts-requires-clause-plan
-join_parts-requires-clause-plan g c = with_memo g.T.Theory.denotes c.args.reach (question_of g.T.Theory.denotes c.args.problem.now) c.args.plan.now c.parts_of.new.memo c.requires.plan c.in_ok-parts.ensures.memo
+join_parts-requires-clause-plan g c = with_memo g.T.Theory.denotes c.args.task.now.reach (question_of g.T.Theory.denotes c.args.task.now.problem.now) c.args.plan.now c.parts_of.new.memo c.requires.plan c.in_ok-parts.ensures.memo
 
 pub returns-clause-plan : goal.returns-clause-plan
-returns-clause-plan g c = on_ok c.join_parts.result (with_memo g.T.Theory.denotes c.args.reach (question_of g.T.Theory.denotes c.args.problem.now) c.args.plan.now c.parts_of.new.memo c.requires.plan c.in_ok-parts.ensures.memo)
+returns-clause-plan g c = on_ok c.join_parts.result (with_memo g.T.Theory.denotes c.args.task.now.reach (question_of g.T.Theory.denotes c.args.task.now.problem.now) c.args.plan.now c.parts_of.new.memo c.requires.plan c.in_ok-parts.ensures.memo)
 
 pub returns-clause-known : goal.returns-clause-known
 returns-clause-known g c = c.join_parts.ensures.known

@@ -30,7 +30,7 @@ copied_leaf-requires-clause-place g c =
 pub returns-clause-step : goal.returns-clause-step
 returns-clause-step g c =
     let number = g.T.Theory.denotes in
-    let question = question_of number c.args.problem.now in
+    let question = question_of number c.args.task.now.problem.now in
     let history = history_of number c.args.known.now.stored in
     let parts = c.args.parts.now in
     let leaving = rw c.in-Some.is at c.requires.parts.leaving in
@@ -38,10 +38,10 @@ returns-clause-step g c =
     let left = rw c.as_slice.ensures.value at c.in_ok-bodies.ensures in
     let assigned : option_map (λ (k : Counterexample). k.assignment) (slice_get history c.in-Some.leaving.place) ≡ Some (vals_of number c.in_ok-bodies.assignment) =
     subst (λ h. option_map (λ (k : Counterexample). k.assignment) (slice_get h c.in-Some.leaving.place) ≡ Some (vals_of number c.in_ok-bodies.assignment)) goes.0 left.assigned in
-    let leaves = leaf_leaves c.args.reach question c.args.limits.now history c.args.known.now.points c.requires.known c.args.level c.requires.opened c.requires.plan.pointwise (merged_of number c.args.bank.now) c.requires.bank (chosen_of number parts.leaves.items) c.in-Some.leaving left.entry
-    (vals_of number c.in_ok-bodies.assignment) c.requires.parts.leaves_are (room_in number c.args.known.now.stored c.args.limits.now.rounds c.requires.room) leaving left.at assigned in
-    subst (λ h. CheckedLeaves c.args.reach question c.args.limits.now.size c.args.limits.now.rounds h (map (expr_of number) c.in_ok-bodies.bodies) (vals_of number c.in_ok-bodies.assignment)) (sym goes.0)
-    (subst (λ bodies. CheckedLeaves c.args.reach question c.args.limits.now.size c.args.limits.now.rounds history bodies (vals_of number c.in_ok-bodies.assignment)) (sym left.bodies_are) leaves)
+    let leaves = leaf_leaves c.args.task.now.reach question c.args.task.now.limits.now history c.args.known.now.points c.requires.known c.args.level c.requires.opened c.requires.plan.pointwise (merged_of number c.args.bank.now) c.requires.bank (chosen_of number parts.leaves.items) c.in-Some.leaving left.entry
+    (vals_of number c.in_ok-bodies.assignment) c.requires.parts.leaves_are (room_in number c.args.known.now.stored c.args.task.now.limits.now.rounds c.requires.room) leaving left.at assigned in
+    subst (λ h. CheckedLeaves c.args.task.now.reach question c.args.task.now.limits.now.size c.args.task.now.limits.now.rounds h (map (expr_of number) c.in_ok-bodies.bodies) (vals_of number c.in_ok-bodies.assignment)) (sym goes.0)
+    (subst (λ bodies. CheckedLeaves c.args.task.now.reach question c.args.task.now.limits.now.size c.args.task.now.limits.now.rounds history bodies (vals_of number c.in_ok-bodies.assignment)) (sym left.bodies_are) leaves)
 
 pub returns-in_err-try_parts-clause-known : goal.returns-in_err-try_parts-clause-known
 returns-in_err-try_parts-clause-known g c = IfOk-from_err c.from_residual.result _ c.from_residual.ensures.0

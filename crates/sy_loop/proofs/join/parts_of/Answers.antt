@@ -16,16 +16,23 @@ use Rattle.sy_loop_spec.specs.Trees.{truths}
 use Rattle.sy_loop.proofs.Joining.{kept_are_leaves, tuples_at}
 use Rattle.sy_loop.proofs.join.parts_of.Goals as goal
 
-pub good_rows-requires-clause-leaves : goal.good_rows-requires-clause-leaves
-good_rows-requires-clause-leaves g c =
+pub good_rows-requires-clause-task : goal.good_rows-requires-clause-task
+good_rows-requires-clause-task g c =
     let number = g.T.Theory.denotes in
-    kept_are_leaves (question_of number c.args.problem.now) c.args.known.now.points c.args.level c.requires.pointwise (merged_of number c.args.bank.now) c.requires.bank (chosen_of number c.as_slice.result.now)
-    (ap (chosen_of number) c.as_slice.ensures.value ∙ c.in_ok-leaves.ensures)
+    record {
+      problem = c.requires.problem;
+      pointwise = c.requires.pointwise;
+      assigned = c.requires.assigned;
+      function = c.requires.functions;
+      rests = c.requires.rests;
+      leaves = kept_are_leaves (question_of number c.args.task.now.problem.now) c.args.known.now.points c.args.level c.requires.pointwise (merged_of number c.args.bank.now) c.requires.bank (chosen_of number c.as_slice.result.now)
+          (ap (chosen_of number) c.as_slice.ensures.value ∙ c.in_ok-leaves.ensures);
+    }
 
 pub returns-clause-parts : goal.returns-clause-parts
 returns-clause-parts g c =
     let number = g.T.Theory.denotes in
-    let question = question_of number c.args.problem.now in
+    let question = question_of number c.args.task.now.problem.now in
     let history = history_of number c.args.known.now.stored in
     let asked = c.args.known.now.points in
     let goods = c.in_ok-goods.goods in

@@ -10,11 +10,11 @@ use Rattle.sy_loop.proofs.join.try_term.Goals as goal
 pub try_candidate-requires-clause-bodies : goal.try_candidate-requires-clause-bodies
 try_candidate-requires-clause-bodies g c =
     rw (c.in_ok-push.ensures.ok, c.new-bodies.ensures)
-    (candidate_fits g.T.Theory.owned g.T.Theory.numeric g.T.Theory.denotes c.args.problem.now c.args.reach c.args.limits.now.size (history_of g.T.Theory.denotes c.args.known.now.stored) (c.args.term ∷ []) c.requires.problem g.met.T.Theory.negation c.requires.candidate)
+    (candidate_fits g.T.Theory.owned g.T.Theory.numeric g.T.Theory.denotes c.args.task.now.problem.now c.args.task.now.reach c.args.task.now.limits.now.size (history_of g.T.Theory.denotes c.args.known.now.stored) (c.args.term ∷ []) c.requires.problem g.met.T.Theory.negation c.requires.candidate)
 
 pub returns-clause-step : goal.returns-clause-step
 returns-clause-step g c =
-    goes_by g.T.Theory.owned g.T.Theory.denotes g.D.Decide.accepted g.D.Decide.budget g.D.Decide.shows c.args.reach (question_of g.T.Theory.denotes c.args.problem.now) c.args.limits.now (map (expr_of g.T.Theory.denotes) c.push.new.self)
+    goes_by g.T.Theory.owned g.T.Theory.denotes g.D.Decide.accepted g.D.Decide.budget g.D.Decide.shows c.args.task.now.reach (question_of g.T.Theory.denotes c.args.task.now.problem.now) c.args.task.now.limits.now (map (expr_of g.T.Theory.denotes) c.push.new.self)
     (history_of g.T.Theory.denotes c.args.known.now.stored) (history_of g.T.Theory.denotes c.try_candidate.new.known.stored) c.args.known.now.points c.try_candidate.new.known.points c.in_ok-step.step c.in_ok-step.ensures.step c.in_ok-step.ensures.grows
 
 pub returns-in_err-push-clause-known : goal.returns-in_err-push-clause-known

@@ -13,31 +13,31 @@ rest_all-requires-clause-held g c = c.requires.known.held
 
 pub returns-in-New-clause-known : goal.returns-in-New-clause-known
 returns-in-New-clause-known g c =
-    known_rested (question_of g.T.Theory.denotes c.args.problem.now) c.requires.plan.pointwise c.args.reach c.args.limits.now (history_of g.T.Theory.denotes c.args.known.now.stored) c.args.known.now.points c.rest_all.new.points c.requires.known c.in_ok-resting.ensures.held c.in_ok-resting.ensures.widens
+    known_rested (question_of g.T.Theory.denotes c.args.task.now.problem.now) c.requires.plan.pointwise c.args.task.now.reach c.args.task.now.limits.now (history_of g.T.Theory.denotes c.args.known.now.stored) c.args.known.now.points c.rest_all.new.points c.requires.known c.in_ok-resting.ensures.held c.in_ok-resting.ensures.widens
 
 pub returns-in_ok-bodies-in-Full-clause-known : goal.returns-in_ok-bodies-in-Full-clause-known
 returns-in_ok-bodies-in-Full-clause-known g c =
-    known_rested (question_of g.T.Theory.denotes c.args.problem.now) c.requires.plan.pointwise c.args.reach c.args.limits.now (history_of g.T.Theory.denotes c.args.known.now.stored) c.args.known.now.points c.rest_all.new.points c.requires.known c.in_ok-resting.ensures.held c.in_ok-resting.ensures.widens
+    known_rested (question_of g.T.Theory.denotes c.args.task.now.problem.now) c.requires.plan.pointwise c.args.task.now.reach c.args.task.now.limits.now (history_of g.T.Theory.denotes c.args.known.now.stored) c.args.known.now.points c.rest_all.new.points c.requires.known c.in_ok-resting.ensures.held c.in_ok-resting.ensures.widens
 
 pub returns-in_ok-bodies-in-Full-clause-step : goal.returns-in_ok-bodies-in-Full-clause-step
 returns-in_ok-bodies-in-Full-clause-step g c =
-    full_met g.T.Theory.denotes (question_of g.T.Theory.denotes c.args.problem.now) c.requires.plan.pointwise c.args.reach c.args.limits.now c.args.known.now.stored c.rest_all.new.points (known_rested (question_of g.T.Theory.denotes c.args.problem.now) c.requires.plan.pointwise c.args.reach c.args.limits.now (history_of g.T.Theory.denotes c.args.known.now.stored) c.args.known.now.points c.rest_all.new.points c.requires.known c.in_ok-resting.ensures.held c.in_ok-resting.ensures.widens) c.requires.room c.in-Full.place c.in_ok-bodies-in-Full.bodies c.in_ok-bodies-in-Full.assignment c.in_ok-bodies-in-Full.ensures
+    full_met g.T.Theory.denotes (question_of g.T.Theory.denotes c.args.task.now.problem.now) c.requires.plan.pointwise c.args.task.now.reach c.args.task.now.limits.now c.args.known.now.stored c.rest_all.new.points (known_rested (question_of g.T.Theory.denotes c.args.task.now.problem.now) c.requires.plan.pointwise c.args.task.now.reach c.args.task.now.limits.now (history_of g.T.Theory.denotes c.args.known.now.stored) c.args.known.now.points c.rest_all.new.points c.requires.known c.in_ok-resting.ensures.held c.in_ok-resting.ensures.widens) c.requires.room c.in-Full.place c.in_ok-bodies-in-Full.bodies c.in_ok-bodies-in-Full.assignment c.in_ok-bodies-in-Full.ensures
     (rw c.in-Full.is at c.in_ok-resting.ensures.answer)
 
 pub returns-in_ok-bodies-in-Leaves-clause-known : goal.returns-in_ok-bodies-in-Leaves-clause-known
 returns-in_ok-bodies-in-Leaves-clause-known g c =
-    known_rested (question_of g.T.Theory.denotes c.args.problem.now) c.requires.plan.pointwise c.args.reach c.args.limits.now (history_of g.T.Theory.denotes c.args.known.now.stored) c.args.known.now.points c.rest_all.new.points c.requires.known c.in_ok-resting.ensures.held c.in_ok-resting.ensures.widens
+    known_rested (question_of g.T.Theory.denotes c.args.task.now.problem.now) c.requires.plan.pointwise c.args.task.now.reach c.args.task.now.limits.now (history_of g.T.Theory.denotes c.args.known.now.stored) c.args.known.now.points c.rest_all.new.points c.requires.known c.in_ok-resting.ensures.held c.in_ok-resting.ensures.widens
 
 pub returns-in_ok-bodies-in-Leaves-clause-step : goal.returns-in_ok-bodies-in-Leaves-clause-step
 returns-in_ok-bodies-in-Leaves-clause-step g c =
-    always_leaves g.T.Theory.denotes (question_of g.T.Theory.denotes c.args.problem.now) c.requires.plan.pointwise c.args.reach c.args.limits.now c.args.known.now.stored c.rest_all.new.points (known_rested (question_of g.T.Theory.denotes c.args.problem.now) c.requires.plan.pointwise c.args.reach c.args.limits.now (history_of g.T.Theory.denotes c.args.known.now.stored) c.args.known.now.points c.rest_all.new.points c.requires.known c.in_ok-resting.ensures.held c.in_ok-resting.ensures.widens) c.requires.room c.in-Leaves.place c.in_ok-bodies-in-Leaves.bodies c.in_ok-bodies-in-Leaves.assignment c.in_ok-bodies-in-Leaves.ensures
+    always_leaves g.T.Theory.denotes (question_of g.T.Theory.denotes c.args.task.now.problem.now) c.requires.plan.pointwise c.args.task.now.reach c.args.task.now.limits.now c.args.known.now.stored c.rest_all.new.points (known_rested (question_of g.T.Theory.denotes c.args.task.now.problem.now) c.requires.plan.pointwise c.args.task.now.reach c.args.task.now.limits.now (history_of g.T.Theory.denotes c.args.known.now.stored) c.args.known.now.points c.rest_all.new.points c.requires.known c.in_ok-resting.ensures.held c.in_ok-resting.ensures.widens) c.requires.room c.in-Leaves.place c.in_ok-bodies-in-Leaves.bodies c.in_ok-bodies-in-Leaves.assignment c.in_ok-bodies-in-Leaves.ensures
     (rw c.in-Leaves.is at c.in_ok-resting.ensures.answer)
 
 pub returns-in_ok-step-in-All-clause-trees : goal.returns-in_ok-step-in-All-clause-trees
 returns-in_ok-step-in-All-clause-trees g c =
     let number = g.T.Theory.denotes in
     let answer = rw c.in-All.is at c.in_ok-resting.ensures.answer in
-    subst (λ asked. OnNext (TreesFollowFrom c.args.reach (question_of number c.args.problem.now) (history_of number c.args.known.now.stored) asked c.args.level (merged_of number c.args.bank.now)) c.in_ok-step-in-All.step) answer.1 c.in_ok-step-in-All.ensures.trees
+    subst (λ asked. OnNext (TreesFollowFrom c.args.task.now.reach (question_of number c.args.task.now.problem.now) (history_of number c.args.known.now.stored) asked c.args.level (merged_of number c.args.bank.now)) c.in_ok-step-in-All.step) answer.1 c.in_ok-step-in-All.ensures.trees
 
 pub returns-in_ok-step-in-All-clause-plan : goal.returns-in_ok-step-in-All-clause-plan
 returns-in_ok-step-in-All-clause-plan g c = c.in_ok-step-in-All.ensures.plan
@@ -49,7 +49,7 @@ pub returns-in_ok-step-in-All-clause-step : goal.returns-in_ok-step-in-All-claus
 returns-in_ok-step-in-All-clause-step g c =
     let number = g.T.Theory.denotes in
     let answer = rw c.in-All.is at c.in_ok-resting.ensures.answer in
-    subst (λ asked. Goes g.T.Theory.owned number g.D.Decide.accepted g.D.Decide.budget g.D.Decide.shows c.args.reach (question_of number c.args.problem.now) c.args.limits.now (history_of number c.args.known.now.stored) asked (history_of number c.join.new.known.stored) c.join.new.known.points c.in_ok-step-in-All.step) answer.1 c.in_ok-step-in-All.ensures.step
+    subst (λ asked. Goes g.T.Theory.owned number g.D.Decide.accepted g.D.Decide.budget g.D.Decide.shows c.args.task.now.reach (question_of number c.args.task.now.problem.now) c.args.task.now.limits.now (history_of number c.args.known.now.stored) asked (history_of number c.join.new.known.stored) c.join.new.known.points c.in_ok-step-in-All.step) answer.1 c.in_ok-step-in-All.ensures.step
 
 pub returns-in-New-clause-plan : goal.returns-in-New-clause-plan
 returns-in-New-clause-plan g c = c.requires.plan

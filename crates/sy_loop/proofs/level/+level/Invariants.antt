@@ -19,19 +19,19 @@ decreases-try_kept g l = 2 * (length l.task.now.banks.now - length l.chosen.now.
 abbrev pub invariant-try_rest-loop-size : goal.invariant-try_rest-loop-size
 invariant-try_rest-loop-size g l = record {
   chosen : l.chosen.items ≡ l.initial.chosen.items;
-  known : IsKnown l.task.reach (question_of g.T.Theory.denotes l.task.problem.now) l.task.limits.now (history_of g.T.Theory.denotes l.known.stored) l.known.points;
+  known : IsKnown l.task.given.now.reach (question_of g.T.Theory.denotes l.task.given.now.problem.now) l.task.given.now.limits.now (history_of g.T.Theory.denotes l.known.stored) l.known.points;
   history : history_of g.T.Theory.denotes l.known.stored ≡ history_of g.T.Theory.denotes l.initial.known.stored;
   points : l.known.points ≡ l.initial.known.points;
-  refuted : AreRefutedBelow (question_of g.T.Theory.denotes l.task.problem.now) (history_of g.T.Theory.denotes l.initial.known.stored) l.initial.known.points (merged_of g.T.Theory.denotes l.bank)
+  refuted : AreRefutedBelow (question_of g.T.Theory.denotes l.task.given.now.problem.now) (history_of g.T.Theory.denotes l.initial.known.stored) l.initial.known.points (merged_of g.T.Theory.denotes l.bank)
       (terms (chosen_of g.T.Theory.denotes l.initial.chosen.items)) (drop (length l.initial.chosen.items + 1) (map (merged_of g.T.Theory.denotes) l.task.banks.now)) l.left l.least l.size;
 }
 
 abbrev pub invariant-try_kept-loop-choice : goal.invariant-try_kept-loop-choice
 invariant-try_kept-loop-choice g l = record {
   chosen : l.chosen.items ≡ l.initial.chosen.items;
-  known : IsKnown l.task.reach (question_of g.T.Theory.denotes l.task.problem.now) l.task.limits.now (history_of g.T.Theory.denotes l.known.stored) l.known.points;
+  known : IsKnown l.task.given.now.reach (question_of g.T.Theory.denotes l.task.given.now.problem.now) l.task.given.now.limits.now (history_of g.T.Theory.denotes l.known.stored) l.known.points;
   history : history_of g.T.Theory.denotes l.known.stored ≡ history_of g.T.Theory.denotes l.initial.known.stored;
   points : l.known.points ≡ l.initial.known.points;
-  refuted : All (λ term. AllAreRefuted (question_of g.T.Theory.denotes l.task.problem.now) (history_of g.T.Theory.denotes l.initial.known.stored) l.initial.known.points
+  refuted : All (λ term. AllAreRefuted (question_of g.T.Theory.denotes l.task.given.now.problem.now) (history_of g.T.Theory.denotes l.initial.known.stored) l.initial.known.points
       (terms (chosen_of g.T.Theory.denotes l.initial.chosen.items ++ entry_of g.T.Theory.denotes term ∷ [])) (drop (length l.initial.chosen.items + 1) (map (merged_of g.T.Theory.denotes) l.task.banks.now)) l.left) (take l.choice-index l.kept);
 }

@@ -10,7 +10,7 @@ found-requires-clause-solution g c = (rw c.in-Found.is at c.requires.end).0
 
 pub found-requires-clause-least : goal.found-requires-clause-least
 found-requires-clause-least g c =
-    found_least c.args._reach (question_of g.T.Theory.denotes c.args._problem.now) c.args._limits.now (history_of g.T.Theory.denotes c.args.known.stored) (map (expr_of g.T.Theory.denotes) c.in-Found.bodies) c.requires.known.honest
+    found_least c.args.task.now.reach (question_of g.T.Theory.denotes c.args.task.now.problem.now) c.args.task.now.limits.now (history_of g.T.Theory.denotes c.args.known.stored) (map (expr_of g.T.Theory.denotes) c.in-Found.bodies) c.requires.known.honest
     (rw c.in-Found.is at c.requires.end).1
 
 pub returns-in-Found-clause-right : goal.returns-in-Found-clause-right

@@ -7,10 +7,10 @@ use Rattle.sy_loop.proofs.plan.plan_of.Goals as goal
 
 pub condition_of-requires : goal.condition_of-requires
 condition_of-requires g c =
-    record { numbered = numbered g.T.Theory.numeric (scope_of g.T.Theory.owned c.args.problem.now.defs) (syntax_from g.T.Theory.denotes c.in-Some.wanted.now.grammar) (formed_first g.T.Theory.owned g.T.Theory.numeric g.T.Theory.denotes c.args.problem.now c.in-Some.wanted.now c.requires c.in-Some.ensures) }
+    record { numbered = numbered g.T.Theory.numeric (scope_of g.T.Theory.owned c.args.task.now.problem.now.defs) (syntax_from g.T.Theory.denotes c.in-Some.wanted.now.grammar) (formed_first g.T.Theory.owned g.T.Theory.numeric g.T.Theory.denotes c.args.task.now.problem.now c.in-Some.wanted.now c.requires c.in-Some.ensures) }
 
 pub returns-in_default-condition_of : goal.returns-in_default-condition_of
-returns-in_default-condition_of g c = none_chooses g.T.Theory.denotes c.args.problem.now c.args.reach c.in-Some.wanted.now c.in-Some.ensures c.in_default-condition_of.ensures
+returns-in_default-condition_of g c = none_chooses g.T.Theory.denotes c.args.task.now.problem.now c.args.task.now.reach c.in-Some.wanted.now c.in-Some.ensures c.in_default-condition_of.ensures
 
 pub returns-in-Some-2 : goal.returns-in-Some-2
 returns-in-Some-2 g c =
@@ -21,7 +21,7 @@ returns-in-Some-2 g c =
       posed = posed.1;
       memo = record { each = λ telling told. absurd (c.new-memo.ensures telling told) };
       goal = goal_of g.T.Theory.denotes c.in-Some.wanted.now;
-      at = first_goal g.T.Theory.denotes c.args.problem.now c.args.reach c.in-Some.wanted.now c.in-Some.ensures;
+      at = first_goal g.T.Theory.denotes c.args.task.now.problem.now c.args.task.now.reach c.in-Some.wanted.now c.in-Some.ensures;
       rule = c.in-Some-condition_of.ensures.rule;
       chooses = c.in-Some-condition_of.ensures.chooses;
     }

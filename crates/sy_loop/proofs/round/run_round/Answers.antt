@@ -19,19 +19,19 @@ use Rattle.sy_loop.proofs.round.run_round.Goals as goal
 
 pub returns-in-Full-clause-round : goal.returns-in-Full-clause-round
 returns-in-Full-clause-round g c =
-    let question = question_of g.T.Theory.denotes c.args.problem.now in
+    let question = question_of g.T.Theory.denotes c.args.task.now.problem.now in
     let history = history_of g.T.Theory.denotes c.args.known.stored in
     let built = rw c.in-Full.is at c.in_ok-taken.ensures.built in
-    bank_met c.args.reach question c.args.limits.now history c.args.known.points c.args.level c.in-Full.function (merged_of g.T.Theory.denotes c.in-Full.bank) c.in-Full.nonterminal (entry_of g.T.Theory.denotes c.in-Full.next) c.requires.known (room_in g.T.Theory.denotes c.args.known.stored c.args.limits.now.rounds c.requires.room)
-    (level_open c.args.reach question c.args.limits.now history c.args.known.points c.args.level c.requires.level c.requires.done) built.0 built.1
+    bank_met c.args.task.now.reach question c.args.task.now.limits.now history c.args.known.points c.args.level c.in-Full.function (merged_of g.T.Theory.denotes c.in-Full.bank) c.in-Full.nonterminal (entry_of g.T.Theory.denotes c.in-Full.next) c.requires.known (room_in g.T.Theory.denotes c.args.known.stored c.args.task.now.limits.now.rounds c.requires.room)
+    (level_open c.args.task.now.reach question c.args.task.now.limits.now history c.args.known.points c.args.level c.requires.level c.requires.done) built.0 built.1
 
 pub try_size-requires-clause-banks : goal.try_size-requires-clause-banks
 try_size-requires-clause-banks g c =
-    rw c.as_slice-all.ensures.value (honest_banks g.T.Theory.owned g.T.Theory.denotes c.args.problem.now c.args.limits.now c.args.known.points c.args.level c.in-Built.banks.items (rw c.in-Built.is at c.in_ok-taken.ensures.built) (rw c.in-Built.is at c.in_ok-taken.ensures.carried))
+    rw c.as_slice-all.ensures.value (honest_banks g.T.Theory.owned g.T.Theory.denotes c.args.task.now.problem.now c.args.task.now.limits.now c.args.known.points c.args.level c.in-Built.banks.items (rw c.in-Built.is at c.in_ok-taken.ensures.built) (rw c.in-Built.is at c.in_ok-taken.ensures.carried))
 
 pub try_size-requires-clause-opened : goal.try_size-requires-clause-opened
 try_size-requires-clause-opened g c =
-    level_open c.args.reach (question_of g.T.Theory.denotes c.args.problem.now) c.args.limits.now (history_of g.T.Theory.denotes c.args.known.stored) c.args.known.points c.args.level c.requires.level c.requires.done
+    level_open c.args.task.now.reach (question_of g.T.Theory.denotes c.args.task.now.problem.now) c.args.task.now.limits.now (history_of g.T.Theory.denotes c.args.known.stored) c.args.known.points c.args.level c.requires.level c.requires.done
 
 pub returns-in-Again-clause-round : goal.returns-in-Again-clause-round
 returns-in-Again-clause-round g c =
@@ -39,7 +39,7 @@ returns-in-Again-clause-round g c =
       c.in_ok-try_size.ensures.known,
       omega (arith, came.2, length-map c.try_size.new.known.stored.items (counterexample_of g.T.Theory.denotes)),
       c.requires.level,
-      again_less c.args.limits.now (history_of g.T.Theory.denotes c.args.known.stored) (history_of g.T.Theory.denotes c.try_size.new.known.stored) c.args.known.points c.try_size.new.known.points c.args.level came.0,
+      again_less c.args.task.now.limits.now (history_of g.T.Theory.denotes c.args.known.stored) (history_of g.T.Theory.denotes c.try_size.new.known.stored) c.args.known.points c.try_size.new.known.points c.args.level came.0,
     )
 
 pub returns-in-Again-clause-carries : goal.returns-in-Again-clause-carries
@@ -51,7 +51,7 @@ returns-in-Again-clause-follows g c = inl refl
 pub returns-in-Again-clause-done : goal.returns-in-Again-clause-done
 returns-in-Again-clause-done g c =
     let came = rw c.in-Again.is at c.in_ok-try_size.ensures.step in
-    done.stays c.args.reach (question_of g.T.Theory.denotes c.args.problem.now) (history_of g.T.Theory.denotes c.args.known.stored) (history_of g.T.Theory.denotes c.try_size.new.known.stored) c.args.known.points c.try_size.new.known.points c.args.level came.1 c.requires.done
+    done.stays c.args.task.now.reach (question_of g.T.Theory.denotes c.args.task.now.problem.now) (history_of g.T.Theory.denotes c.args.known.stored) (history_of g.T.Theory.denotes c.try_size.new.known.stored) c.args.known.points c.try_size.new.known.points c.args.level came.1 c.requires.done
 
 pub ended-requires-clause-known : goal.ended-requires-clause-known
 ended-requires-clause-known g c = c.in_ok-try_size.ensures.known
@@ -62,13 +62,13 @@ ended-requires-clause-end g c = rw c.in-End.is at c.in_ok-try_size.ensures.step
 pub after_level-requires-clause-room : goal.after_level-requires-clause-room
 after_level-requires-clause-room g c =
     let goes = rw c.in-Next.is at c.in_ok-try_size.ensures.step in
-    same_room g.T.Theory.denotes c.args.known.stored c.try_size.new.known.stored c.args.limits.now.rounds goes.0 c.requires.room
+    same_room g.T.Theory.denotes c.args.known.stored c.try_size.new.known.stored c.args.task.now.limits.now.rounds goes.0 c.requires.room
 
 pub after_level-requires-clause-banks : goal.after_level-requires-clause-banks
 after_level-requires-clause-banks g c =
     let goes = rw c.in-Next.is at c.in_ok-try_size.ensures.step in
     let built = rw c.in-Built.is at c.in_ok-taken.ensures.built in
-    subst (λ asked. AreBanks (question_of g.T.Theory.denotes c.args.problem.now) c.args.limits.now asked c.args.level (map (merged_of g.T.Theory.denotes) c.in-Built.banks.items)) (sym goes.1) built
+    subst (λ asked. AreBanks (question_of g.T.Theory.denotes c.args.task.now.problem.now) c.args.task.now.limits.now asked c.args.level (map (merged_of g.T.Theory.denotes) c.in-Built.banks.items)) (sym goes.1) built
 
 pub after_level-requires-clause-carried : goal.after_level-requires-clause-carried
 after_level-requires-clause-carried g c = rw c.in-Built.is at c.in_ok-taken.ensures.carried
@@ -76,11 +76,11 @@ after_level-requires-clause-carried g c = rw c.in-Built.is at c.in_ok-taken.ensu
 pub after_level-requires-clause-done : goal.after_level-requires-clause-done
 after_level-requires-clause-done g c =
     let goes = rw c.in-Next.is at c.in_ok-try_size.ensures.step in
-    same_done c.args.reach (question_of g.T.Theory.denotes c.args.problem.now) (history_of g.T.Theory.denotes c.args.known.stored) (history_of g.T.Theory.denotes c.try_size.new.known.stored) c.args.known.points c.try_size.new.known.points c.args.level goes.0 goes.1 c.requires.done
+    same_done c.args.task.now.reach (question_of g.T.Theory.denotes c.args.task.now.problem.now) (history_of g.T.Theory.denotes c.args.known.stored) (history_of g.T.Theory.denotes c.try_size.new.known.stored) c.args.known.points c.try_size.new.known.points c.args.level goes.0 goes.1 c.requires.done
 
 pub after_level-requires-clause-refuted : goal.after_level-requires-clause-refuted
 after_level-requires-clause-refuted g c =
-    let question = question_of g.T.Theory.denotes c.args.problem.now in
+    let question = question_of g.T.Theory.denotes c.args.task.now.problem.now in
     let banks = map (merged_of g.T.Theory.denotes) c.in-Built.banks.items in
     let goes = rw c.in-Next.is at c.in_ok-try_size.ensures.step in
     let refuted : AllAreRefuted question (history_of g.T.Theory.denotes c.args.known.stored) c.args.known.points [] banks c.args.level = rw c.as_slice-all.ensures.value at (rw c.in-Next.is at c.in_ok-try_size.ensures.refuted) in
@@ -89,17 +89,17 @@ after_level-requires-clause-refuted g c =
 
 pub after_level-requires-clause-trees : goal.after_level-requires-clause-trees
 after_level-requires-clause-trees g c =
-    let question = question_of g.T.Theory.denotes c.args.problem.now in
+    let question = question_of g.T.Theory.denotes c.args.task.now.problem.now in
     let history = history_of g.T.Theory.denotes c.args.known.stored in
     let banks = map (merged_of g.T.Theory.denotes) c.in-Built.banks.items in
     let goes = rw c.in-Next.is at c.in_ok-try_size.ensures.step in
-    let follow : TreesFollow c.args.reach question history c.args.known.points c.args.level banks = rw c.as_slice-all.ensures.value at (rw c.in-Next.is at c.in_ok-try_size.ensures.trees) in
-    same_follow c.args.reach question history (history_of g.T.Theory.denotes c.try_size.new.known.stored) c.args.known.points c.try_size.new.known.points c.args.level banks goes.0 goes.1 follow
+    let follow : TreesFollow c.args.task.now.reach question history c.args.known.points c.args.level banks = rw c.as_slice-all.ensures.value at (rw c.in-Next.is at c.in_ok-try_size.ensures.trees) in
+    same_follow c.args.task.now.reach question history (history_of g.T.Theory.denotes c.try_size.new.known.stored) c.args.known.points c.try_size.new.known.points c.args.level banks goes.0 goes.1 follow
 
 pub returns-clause-round : goal.returns-clause-round
 returns-clause-round g c =
     let goes = rw c.in-Next.is at c.in_ok-try_size.ensures.step in
-    rounds_from g.T.Theory.owned g.T.Theory.denotes g.D.Decide.accepted g.D.Decide.budget g.D.Decide.shows c.args.reach (question_of g.T.Theory.denotes c.args.problem.now) c.args.limits.now (history_of g.T.Theory.denotes c.args.known.stored) (history_of g.T.Theory.denotes c.try_size.new.known.stored)
+    rounds_from g.T.Theory.owned g.T.Theory.denotes g.D.Decide.accepted g.D.Decide.budget g.D.Decide.shows c.args.task.now.reach (question_of g.T.Theory.denotes c.args.task.now.problem.now) c.args.task.now.limits.now (history_of g.T.Theory.denotes c.args.known.stored) (history_of g.T.Theory.denotes c.try_size.new.known.stored)
     c.args.known.points c.try_size.new.known.points c.args.level c.in_ok-round.round goes.0 goes.1 c.in_ok-round.ensures.round
 
 pub returns-in_err-taken-clause-plan : goal.returns-in_err-taken-clause-plan

@@ -1,10 +1,11 @@
 use Rattle.std.proofs.Common.{◌≤◌, ◌<◌, length}
+use Rattle.std.specs.Prelude.{MatchOption}
 use Rattle.sy_grammar_base.specs.Questions.{question_of}
 use Rattle.sy_loop_spec.specs.Stored.{history_of}
 use Rattle.sy_loop_truth.specs.Known.{IsKnown}
-use Rattle.sy_loop.specs.Clauses.{IsPlannedFor}
 use Rattle.sy_loop_banks.specs.Banks.{AreCarried}
 use Rattle.sy_loop_spec.specs.Refuting.{AreDoneBelow}
+use Rattle.sy_loop.specs.Plans.{IsPlan, TriesNoTrees}
 use Rattle.sy_loop.specs.Rounds.{work}
 use Rattle.sy_loop.proofs.search.search.Given as goal
 
@@ -17,6 +18,6 @@ invariant-rounds g l = record {
   room : length l.known.stored.items < l.limits.rounds;
   within : l.level ≤ l.limits.size;
   done : AreDoneBelow l.reach (question_of g.T.Theory.denotes l.problem) (history_of g.T.Theory.denotes l.known.stored) l.known.points l.level;
-  plan : IsPlannedFor g.T.Theory l.reach l.problem l.plan;
+  plan : MatchOption l.plan (TriesNoTrees l.reach (question_of g.T.Theory.denotes l.problem)) (IsPlan g.T.Theory.denotes l.reach (question_of g.T.Theory.denotes l.problem));
   carried : AreCarried g.T.Theory.owned g.T.Theory.denotes l.problem l.limits l.level l.banks.items;
 }

@@ -16,14 +16,14 @@ pub term_of-requires : goal.term_of-requires
 term_of-requires g c =
     let at = image_at (merged_of g.T.Theory.denotes) c.args.banks.now c.loop-function.function c.in-Some.bank.now (omega (arith, c.loop-function-test.true, c.requires.functions)) c.in-Some.ensures.lookup.1 in
     let of = c.requires.banks.each c.loop-function.function (merged_of g.T.Theory.denotes c.in-Some.bank.now) at in
-    placed (question_of g.T.Theory.denotes c.args.problem.now) c.args.limits.now c.args.known.now.points c.args.level c.loop-function.function (merged_of g.T.Theory.denotes c.in-Some.bank.now) of
+    placed (question_of g.T.Theory.denotes c.args.task.now.problem.now) c.args.task.now.limits.now c.args.known.now.points c.args.level c.loop-function.function (merged_of g.T.Theory.denotes c.in-Some.bank.now) of
 
 pub returns-in-Some-2 : goal.returns-in-Some-2
 returns-in-Some-2 g c =
     let at = image_at (merged_of g.T.Theory.denotes) c.args.banks.now c.loop-function.function c.in-Some.bank.now (omega (arith, c.loop-function-test.true, c.requires.functions)) c.in-Some.ensures.lookup.1 in
     let of = c.requires.banks.each c.loop-function.function (merged_of g.T.Theory.denotes c.in-Some.bank.now) at in
-    dropped_leaves g.T.Theory.denotes c.args.reach (question_of g.T.Theory.denotes c.args.problem.now) c.args.limits.now (history_of g.T.Theory.denotes c.args.known.now.stored) c.args.known.now.points c.args.level c.loop-function.function (merged_of g.T.Theory.denotes c.in-Some.bank.now) c.in-Some-2.left
-    c.requires.known (room_in g.T.Theory.denotes c.args.known.now.stored c.args.limits.now.rounds c.requires.room) c.requires.opened of (rw c.in-Some-2.is at c.in_ok-left.ensures)
+    dropped_leaves g.T.Theory.denotes c.args.task.now.reach (question_of g.T.Theory.denotes c.args.task.now.problem.now) c.args.task.now.limits.now (history_of g.T.Theory.denotes c.args.known.now.stored) c.args.known.now.points c.args.level c.loop-function.function (merged_of g.T.Theory.denotes c.in-Some.bank.now) c.in-Some-2.left
+    c.requires.known (room_in g.T.Theory.denotes c.args.known.now.stored c.args.task.now.limits.now.rounds c.requires.room) c.requires.opened of (rw c.in-Some-2.is at c.in_ok-left.ensures)
 
 pub loop-function-preserved : goal.loop-function-preserved
 loop-function-preserved g c =

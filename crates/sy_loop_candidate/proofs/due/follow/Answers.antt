@@ -22,10 +22,10 @@ pub returns-in_ok-assignment-in-Full-clause-step : goal.returns-in_ok-assignment
 returns-in_ok-assignment-in-Full-clause-step g c =
     let pair : List (Value g.row.T-Num.Denot) × List (Term g.row.T.Denot g.row.T-Num.Denot) = (c.in-Some.field-0-0.now, c.in-Some.bodies.now) in
     let at = place_of g.T.Theory.denotes c.args.known.now.stored c.args.place pair c.in-Some.ensures in
-    let candidate = stored_candidate c.args.reach (question_of g.T.Theory.denotes c.args.problem.now) c.args.limits.now (history_of g.T.Theory.denotes c.args.known.now.stored) c.args.place (counterexample_of g.T.Theory.denotes pair) c.requires.known.honest at in
-    let known = known_wider (question_of g.T.Theory.denotes c.args.problem.now) (history_of g.T.Theory.denotes c.args.known.now.stored) (map (expr_of g.T.Theory.denotes) c.in-Some.bodies.now) c.args.reach c.args.limits.now c.args.known.now.points c.ask_at.new.points candidate c.requires.known c.in_ok-asked.ensures.held c.in_ok-asked.ensures.widens in
-    let met = points_met c.args.reach (question_of g.T.Theory.denotes c.args.problem.now) c.args.limits.now (history_of g.T.Theory.denotes c.args.known.now.stored) c.ask_at.new.points (map (expr_of g.T.Theory.denotes) c.in-Some.bodies.now) c.in-Full.function c.args.place
-    (vals_of g.T.Theory.denotes c.in_ok-assignment-in-Full.assignment) known (room_in g.T.Theory.denotes c.args.known.now.stored c.args.limits.now.rounds c.requires.room) candidate
+    let candidate = stored_candidate c.args.task.now.reach (question_of g.T.Theory.denotes c.args.task.now.problem.now) c.args.task.now.limits.now (history_of g.T.Theory.denotes c.args.known.now.stored) c.args.place (counterexample_of g.T.Theory.denotes pair) c.requires.known.honest at in
+    let known = known_wider (question_of g.T.Theory.denotes c.args.task.now.problem.now) (history_of g.T.Theory.denotes c.args.known.now.stored) (map (expr_of g.T.Theory.denotes) c.in-Some.bodies.now) c.args.task.now.reach c.args.task.now.limits.now c.args.known.now.points c.ask_at.new.points candidate c.requires.known c.in_ok-asked.ensures.held c.in_ok-asked.ensures.widens in
+    let met = points_met c.args.task.now.reach (question_of g.T.Theory.denotes c.args.task.now.problem.now) c.args.task.now.limits.now (history_of g.T.Theory.denotes c.args.known.now.stored) c.ask_at.new.points (map (expr_of g.T.Theory.denotes) c.in-Some.bodies.now) c.in-Full.function c.args.place
+    (vals_of g.T.Theory.denotes c.in_ok-assignment-in-Full.assignment) known (room_in g.T.Theory.denotes c.args.known.now.stored c.args.task.now.limits.now.rounds c.requires.room) candidate
     (rw (c.in-Some-asked.is, c.in-Full.is) at c.in_ok-asked.ensures.answer) c.in_ok-assignment-in-Full.ensures in
     (rw c.in_ok-copy-in-Full.ensures met, tt)
 
@@ -33,7 +33,7 @@ pub returns-in-There-clause-step : goal.returns-in-There-clause-step
 returns-in-There-clause-step g c =
     let pair : List (Value g.row.T-Num.Denot) × List (Term g.row.T.Denot g.row.T-Num.Denot) = (c.in-Some.field-0-0.now, c.in-Some.bodies.now) in
     let at = place_of g.T.Theory.denotes c.args.known.now.stored c.args.place pair c.in-Some.ensures in (
-      followed_at (question_of g.T.Theory.denotes c.args.problem.now) (history_of g.T.Theory.denotes c.args.known.now.stored) c.ask_at.new.points c.args.place (counterexample_of g.T.Theory.denotes pair) at
+      followed_at (question_of g.T.Theory.denotes c.args.task.now.problem.now) (history_of g.T.Theory.denotes c.args.known.now.stored) c.ask_at.new.points c.args.place (counterexample_of g.T.Theory.denotes pair) at
           (let answer = rw (c.in-Some-asked.is, c.in-There.is) at c.in_ok-asked.ensures.answer in answer.0),
       c.in_ok-asked.ensures.widens.less,
     )
@@ -42,7 +42,7 @@ pub returns-in-New-clause-step : goal.returns-in-New-clause-step
 returns-in-New-clause-step g c =
     let pair : List (Value g.row.T-Num.Denot) × List (Term g.row.T.Denot g.row.T-Num.Denot) = (c.in-Some.field-0-0.now, c.in-Some.bodies.now) in
     let at = place_of g.T.Theory.denotes c.args.known.now.stored c.args.place pair c.in-Some.ensures in (
-      followed_at (question_of g.T.Theory.denotes c.args.problem.now) (history_of g.T.Theory.denotes c.args.known.now.stored) c.ask_at.new.points c.args.place (counterexample_of g.T.Theory.denotes pair) at
+      followed_at (question_of g.T.Theory.denotes c.args.task.now.problem.now) (history_of g.T.Theory.denotes c.args.known.now.stored) c.ask_at.new.points c.args.place (counterexample_of g.T.Theory.denotes pair) at
           (let answer = rw (c.in-Some-asked.is, c.in-New.is) at c.in_ok-asked.ensures.answer in answer.0),
       c.in_ok-asked.ensures.widens.less,
     )
@@ -51,7 +51,7 @@ pub returns-in_default-asked-clause-step : goal.returns-in_default-asked-clause-
 returns-in_default-asked-clause-step g c =
     let pair : List (Value g.row.T-Num.Denot) × List (Term g.row.T.Denot g.row.T-Num.Denot) = (c.in-Some.field-0-0.now, c.in-Some.bodies.now) in
     let at = place_of g.T.Theory.denotes c.args.known.now.stored c.args.place pair c.in-Some.ensures in (
-      followed_leaves (question_of g.T.Theory.denotes c.args.problem.now) (history_of g.T.Theory.denotes c.args.known.now.stored) c.ask_at.new.points c.args.place (counterexample_of g.T.Theory.denotes pair) at
+      followed_leaves (question_of g.T.Theory.denotes c.args.task.now.problem.now) (history_of g.T.Theory.denotes c.args.known.now.stored) c.ask_at.new.points c.args.place (counterexample_of g.T.Theory.denotes pair) at
           (rw c.in_default-asked.is at c.in_ok-asked.ensures.answer),
       c.in_ok-asked.ensures.widens.less,
     )
@@ -60,45 +60,45 @@ pub returns-in_ok-assignment-in-Full-clause-known : goal.returns-in_ok-assignmen
 returns-in_ok-assignment-in-Full-clause-known g c =
     let pair : List (Value g.row.T-Num.Denot) × List (Term g.row.T.Denot g.row.T-Num.Denot) = (c.in-Some.field-0-0.now, c.in-Some.bodies.now) in
     let at = place_of g.T.Theory.denotes c.args.known.now.stored c.args.place pair c.in-Some.ensures in
-    known_wider (question_of g.T.Theory.denotes c.args.problem.now) (history_of g.T.Theory.denotes c.args.known.now.stored) (map (expr_of g.T.Theory.denotes) c.in-Some.bodies.now) c.args.reach c.args.limits.now c.args.known.now.points c.ask_at.new.points
-    (stored_candidate c.args.reach (question_of g.T.Theory.denotes c.args.problem.now) c.args.limits.now (history_of g.T.Theory.denotes c.args.known.now.stored) c.args.place (counterexample_of g.T.Theory.denotes pair) c.requires.known.honest at) c.requires.known c.in_ok-asked.ensures.held c.in_ok-asked.ensures.widens
+    known_wider (question_of g.T.Theory.denotes c.args.task.now.problem.now) (history_of g.T.Theory.denotes c.args.known.now.stored) (map (expr_of g.T.Theory.denotes) c.in-Some.bodies.now) c.args.task.now.reach c.args.task.now.limits.now c.args.known.now.points c.ask_at.new.points
+    (stored_candidate c.args.task.now.reach (question_of g.T.Theory.denotes c.args.task.now.problem.now) c.args.task.now.limits.now (history_of g.T.Theory.denotes c.args.known.now.stored) c.args.place (counterexample_of g.T.Theory.denotes pair) c.requires.known.honest at) c.requires.known c.in_ok-asked.ensures.held c.in_ok-asked.ensures.widens
 
 pub returns-in_ok-assignment-in-Full-clause-grows : goal.returns-in_ok-assignment-in-Full-clause-grows
 returns-in_ok-assignment-in-Full-clause-grows g c =
-    grows_by (question_of g.T.Theory.denotes c.args.problem.now) (history_of g.T.Theory.denotes c.args.known.now.stored) (map (expr_of g.T.Theory.denotes) c.in-Some.bodies.now) c.args.known.now.points c.ask_at.new.points c.in_ok-asked.ensures.widens
+    grows_by (question_of g.T.Theory.denotes c.args.task.now.problem.now) (history_of g.T.Theory.denotes c.args.known.now.stored) (map (expr_of g.T.Theory.denotes) c.in-Some.bodies.now) c.args.known.now.points c.ask_at.new.points c.in_ok-asked.ensures.widens
 
 pub returns-in-There-clause-known : goal.returns-in-There-clause-known
 returns-in-There-clause-known g c =
     let pair : List (Value g.row.T-Num.Denot) × List (Term g.row.T.Denot g.row.T-Num.Denot) = (c.in-Some.field-0-0.now, c.in-Some.bodies.now) in
     let at = place_of g.T.Theory.denotes c.args.known.now.stored c.args.place pair c.in-Some.ensures in
-    known_wider (question_of g.T.Theory.denotes c.args.problem.now) (history_of g.T.Theory.denotes c.args.known.now.stored) (map (expr_of g.T.Theory.denotes) c.in-Some.bodies.now) c.args.reach c.args.limits.now c.args.known.now.points c.ask_at.new.points
-    (stored_candidate c.args.reach (question_of g.T.Theory.denotes c.args.problem.now) c.args.limits.now (history_of g.T.Theory.denotes c.args.known.now.stored) c.args.place (counterexample_of g.T.Theory.denotes pair) c.requires.known.honest at) c.requires.known c.in_ok-asked.ensures.held c.in_ok-asked.ensures.widens
+    known_wider (question_of g.T.Theory.denotes c.args.task.now.problem.now) (history_of g.T.Theory.denotes c.args.known.now.stored) (map (expr_of g.T.Theory.denotes) c.in-Some.bodies.now) c.args.task.now.reach c.args.task.now.limits.now c.args.known.now.points c.ask_at.new.points
+    (stored_candidate c.args.task.now.reach (question_of g.T.Theory.denotes c.args.task.now.problem.now) c.args.task.now.limits.now (history_of g.T.Theory.denotes c.args.known.now.stored) c.args.place (counterexample_of g.T.Theory.denotes pair) c.requires.known.honest at) c.requires.known c.in_ok-asked.ensures.held c.in_ok-asked.ensures.widens
 
 pub returns-in-There-clause-grows : goal.returns-in-There-clause-grows
 returns-in-There-clause-grows g c =
-    grows_by (question_of g.T.Theory.denotes c.args.problem.now) (history_of g.T.Theory.denotes c.args.known.now.stored) (map (expr_of g.T.Theory.denotes) c.in-Some.bodies.now) c.args.known.now.points c.ask_at.new.points c.in_ok-asked.ensures.widens
+    grows_by (question_of g.T.Theory.denotes c.args.task.now.problem.now) (history_of g.T.Theory.denotes c.args.known.now.stored) (map (expr_of g.T.Theory.denotes) c.in-Some.bodies.now) c.args.known.now.points c.ask_at.new.points c.in_ok-asked.ensures.widens
 
 pub returns-in-New-clause-known : goal.returns-in-New-clause-known
 returns-in-New-clause-known g c =
     let pair : List (Value g.row.T-Num.Denot) × List (Term g.row.T.Denot g.row.T-Num.Denot) = (c.in-Some.field-0-0.now, c.in-Some.bodies.now) in
     let at = place_of g.T.Theory.denotes c.args.known.now.stored c.args.place pair c.in-Some.ensures in
-    known_wider (question_of g.T.Theory.denotes c.args.problem.now) (history_of g.T.Theory.denotes c.args.known.now.stored) (map (expr_of g.T.Theory.denotes) c.in-Some.bodies.now) c.args.reach c.args.limits.now c.args.known.now.points c.ask_at.new.points
-    (stored_candidate c.args.reach (question_of g.T.Theory.denotes c.args.problem.now) c.args.limits.now (history_of g.T.Theory.denotes c.args.known.now.stored) c.args.place (counterexample_of g.T.Theory.denotes pair) c.requires.known.honest at) c.requires.known c.in_ok-asked.ensures.held c.in_ok-asked.ensures.widens
+    known_wider (question_of g.T.Theory.denotes c.args.task.now.problem.now) (history_of g.T.Theory.denotes c.args.known.now.stored) (map (expr_of g.T.Theory.denotes) c.in-Some.bodies.now) c.args.task.now.reach c.args.task.now.limits.now c.args.known.now.points c.ask_at.new.points
+    (stored_candidate c.args.task.now.reach (question_of g.T.Theory.denotes c.args.task.now.problem.now) c.args.task.now.limits.now (history_of g.T.Theory.denotes c.args.known.now.stored) c.args.place (counterexample_of g.T.Theory.denotes pair) c.requires.known.honest at) c.requires.known c.in_ok-asked.ensures.held c.in_ok-asked.ensures.widens
 
 pub returns-in-New-clause-grows : goal.returns-in-New-clause-grows
 returns-in-New-clause-grows g c =
-    grows_by (question_of g.T.Theory.denotes c.args.problem.now) (history_of g.T.Theory.denotes c.args.known.now.stored) (map (expr_of g.T.Theory.denotes) c.in-Some.bodies.now) c.args.known.now.points c.ask_at.new.points c.in_ok-asked.ensures.widens
+    grows_by (question_of g.T.Theory.denotes c.args.task.now.problem.now) (history_of g.T.Theory.denotes c.args.known.now.stored) (map (expr_of g.T.Theory.denotes) c.in-Some.bodies.now) c.args.known.now.points c.ask_at.new.points c.in_ok-asked.ensures.widens
 
 pub returns-in_default-asked-clause-known : goal.returns-in_default-asked-clause-known
 returns-in_default-asked-clause-known g c =
     let pair : List (Value g.row.T-Num.Denot) × List (Term g.row.T.Denot g.row.T-Num.Denot) = (c.in-Some.field-0-0.now, c.in-Some.bodies.now) in
     let at = place_of g.T.Theory.denotes c.args.known.now.stored c.args.place pair c.in-Some.ensures in
-    known_wider (question_of g.T.Theory.denotes c.args.problem.now) (history_of g.T.Theory.denotes c.args.known.now.stored) (map (expr_of g.T.Theory.denotes) c.in-Some.bodies.now) c.args.reach c.args.limits.now c.args.known.now.points c.ask_at.new.points
-    (stored_candidate c.args.reach (question_of g.T.Theory.denotes c.args.problem.now) c.args.limits.now (history_of g.T.Theory.denotes c.args.known.now.stored) c.args.place (counterexample_of g.T.Theory.denotes pair) c.requires.known.honest at) c.requires.known c.in_ok-asked.ensures.held c.in_ok-asked.ensures.widens
+    known_wider (question_of g.T.Theory.denotes c.args.task.now.problem.now) (history_of g.T.Theory.denotes c.args.known.now.stored) (map (expr_of g.T.Theory.denotes) c.in-Some.bodies.now) c.args.task.now.reach c.args.task.now.limits.now c.args.known.now.points c.ask_at.new.points
+    (stored_candidate c.args.task.now.reach (question_of g.T.Theory.denotes c.args.task.now.problem.now) c.args.task.now.limits.now (history_of g.T.Theory.denotes c.args.known.now.stored) c.args.place (counterexample_of g.T.Theory.denotes pair) c.requires.known.honest at) c.requires.known c.in_ok-asked.ensures.held c.in_ok-asked.ensures.widens
 
 pub returns-in_default-asked-clause-grows : goal.returns-in_default-asked-clause-grows
 returns-in_default-asked-clause-grows g c =
-    grows_by (question_of g.T.Theory.denotes c.args.problem.now) (history_of g.T.Theory.denotes c.args.known.now.stored) (map (expr_of g.T.Theory.denotes) c.in-Some.bodies.now) c.args.known.now.points c.ask_at.new.points c.in_ok-asked.ensures.widens
+    grows_by (question_of g.T.Theory.denotes c.args.task.now.problem.now) (history_of g.T.Theory.denotes c.args.known.now.stored) (map (expr_of g.T.Theory.denotes) c.in-Some.bodies.now) c.args.known.now.points c.ask_at.new.points c.in_ok-asked.ensures.widens
 
 pub unreachable-requires : goal.unreachable-requires
 unreachable-requires g c = omega (arith, c.requires.place, c.in_default.ensures)

@@ -13,14 +13,14 @@ use Rattle.sy_loop_goods.proofs.goods.good_column.Goals as goal
 
 pub judge_leaf-requires-clause-rests : goal.judge_leaf-requires-clause-rests
 judge_leaf-requires-clause-rests g c =
-    let P = IsRest (question_of g.T.Theory.denotes c.args.problem.now) (assignments_of (history_of g.T.Theory.denotes c.args.stored.now)) (of_function c.args.points.now 0) in
-    rw (c.as_slice.ensures.value, c.in_ok-here.ensures) (All-filter (is_on c.args.point) P c.args.rests.now c.requires.rests.each)
+    let P = IsRest (question_of g.T.Theory.denotes c.args.task.now.problem.now) (assignments_of (history_of g.T.Theory.denotes c.args.task.now.stored.now)) (of_function c.args.task.now.points.now 0) in
+    rw (c.as_slice.ensures.value, c.in_ok-here.ensures) (All-filter (is_on c.args.point) P c.args.task.now.rests.now c.requires.task.rests.each)
 
 pub loop-leaf-preserved : goal.loop-leaf-preserved
 loop-leaf-preserved g c =
     rw (c.in_ok-push.ensures.ok, c.is_good.ensures, c.or-leaving.ensures, c.leaving_by.ensures) (record {
-      goods = goods_next g.T.Theory.denotes (question_of g.T.Theory.denotes c.args.problem.now) (history_of g.T.Theory.denotes c.args.stored.now) (of_function c.args.points.now 0) c.args.rests.now c.in_ok-here.here.items c.args.point c.requires.distinct c.requires.rests c.in_ok-here.ensures c.requires.pointwise c.requires.assigned c.args.leaves.now c.requires.leaves.rows c.loop-leaf.leaf c.loop-leaf.goods c.in_ok-judged.judged (rw (c.as_slice.ensures.value, c.as_slice-in-loop-leaf.ensures) at c.in_ok-judged.ensures.judged) c.loop-leaf.leaving c.loop-leaf.invariant.goods;
-      leaving = leaving_next g.T.Theory.denotes (question_of g.T.Theory.denotes c.args.problem.now) (history_of g.T.Theory.denotes c.args.stored.now) (of_function c.args.points.now 0) c.args.rests.now c.in_ok-here.here.items c.args.point c.requires.distinct c.requires.rests c.in_ok-here.ensures c.requires.pointwise c.requires.assigned c.args.leaves.now c.requires.leaves.rows c.loop-leaf.leaf c.loop-leaf.goods c.in_ok-judged.judged (rw (c.as_slice.ensures.value, c.as_slice-in-loop-leaf.ensures) at c.in_ok-judged.ensures.judged) c.loop-leaf.leaving c.loop-leaf.invariant.leaving;
+      goods = goods_next g.T.Theory.denotes (question_of g.T.Theory.denotes c.args.task.now.problem.now) (history_of g.T.Theory.denotes c.args.task.now.stored.now) (of_function c.args.task.now.points.now 0) c.args.task.now.rests.now c.in_ok-here.here.items c.args.point c.requires.distinct c.requires.task.rests c.in_ok-here.ensures c.requires.task.pointwise c.requires.task.assigned c.args.task.now.leaves.now c.requires.task.leaves.rows c.loop-leaf.leaf c.loop-leaf.goods c.in_ok-judged.judged (rw (c.as_slice.ensures.value, c.as_slice-in-loop-leaf.ensures) at c.in_ok-judged.ensures.judged) c.loop-leaf.leaving c.loop-leaf.invariant.goods;
+      leaving = leaving_next g.T.Theory.denotes (question_of g.T.Theory.denotes c.args.task.now.problem.now) (history_of g.T.Theory.denotes c.args.task.now.stored.now) (of_function c.args.task.now.points.now 0) c.args.task.now.rests.now c.in_ok-here.here.items c.args.point c.requires.distinct c.requires.task.rests c.in_ok-here.ensures c.requires.task.pointwise c.requires.task.assigned c.args.task.now.leaves.now c.requires.task.leaves.rows c.loop-leaf.leaf c.loop-leaf.goods c.in_ok-judged.judged (rw (c.as_slice.ensures.value, c.as_slice-in-loop-leaf.ensures) at c.in_ok-judged.ensures.judged) c.loop-leaf.leaving c.loop-leaf.invariant.leaving;
       memo = c.in_ok-judged.ensures.memo;
     })
 
@@ -32,7 +32,7 @@ loop-leaf-init g c = rw c.new-goods.ensures (record {
 })
 
 pub returns-clause-goods : goal.returns-clause-goods
-returns-clause-goods g c = rw (take_all c.loop-leaf.leaf c.args.leaves.now (omega (arith, c.loop-leaf-test.false))) at c.loop-leaf.invariant.goods
+returns-clause-goods g c = rw (take_all c.loop-leaf.leaf c.args.task.now.leaves.now (omega (arith, c.loop-leaf-test.false))) at c.loop-leaf.invariant.goods
 
 pub returns-clause-leaving : goal.returns-clause-leaving
 returns-clause-leaving g c = c.loop-leaf.invariant.leaving

@@ -13,8 +13,8 @@ use Rattle.sy_loop_goods.proofs.goods.good_column.Given as goal
 
 abbrev pub invariant-loop-leaf : goal.invariant-loop-leaf
 invariant-loop-leaf g l = record {
-  goods : l.leaving ≡ None → (tuple : List Val) → slice_get (of_function l.points 0) l.point ≡ Some tuple →
-      IsColumn (question_of g.T.Theory.denotes l.problem) (assignments_of (history_of g.T.Theory.denotes l.stored)) tuple (chosen_of g.T.Theory.denotes (take l.leaf l.leaves)) l.goods;
-  leaving : IfSome l.leaving (LeafLeaves (question_of g.T.Theory.denotes l.problem) (history_of g.T.Theory.denotes l.stored) (chosen_of g.T.Theory.denotes l.leaves));
-  memo : IsMemo g.T.Theory.denotes (question_of g.T.Theory.denotes l.problem) l.memo;
+  goods : l.leaving ≡ None → (tuple : List Val) → slice_get (of_function l.task.points.now 0) l.point ≡ Some tuple →
+      IsColumn (question_of g.T.Theory.denotes l.task.problem.now) (assignments_of (history_of g.T.Theory.denotes l.task.stored.now)) tuple (chosen_of g.T.Theory.denotes (take l.leaf l.task.leaves.now)) l.goods;
+  leaving : IfSome l.leaving (LeafLeaves (question_of g.T.Theory.denotes l.task.problem.now) (history_of g.T.Theory.denotes l.task.stored.now) (chosen_of g.T.Theory.denotes l.task.leaves.now));
+  memo : IsMemo g.T.Theory.denotes (question_of g.T.Theory.denotes l.task.problem.now) l.memo;
 }

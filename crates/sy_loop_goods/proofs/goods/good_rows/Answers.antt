@@ -18,32 +18,32 @@ pub loop-point-init : goal.loop-point-init
 loop-point-init g c = record {
   columns = search rules;
   leaving = search rules;
-  memo = memo_stays g.T.Theory.denotes (question_of g.T.Theory.denotes c.args.problem.now) c.args.memo.now c.widen.new.self c.requires.memo c.in_ok-widen.ensures;
+  memo = memo_stays g.T.Theory.denotes (question_of g.T.Theory.denotes c.args.task.now.problem.now) c.args.memo.now c.widen.new.self c.requires.memo c.in_ok-widen.ensures;
 }
 
 pub loop-point-preserved : goal.loop-point-preserved
 loop-point-preserved g c =
-    let leaves = chosen_of g.T.Theory.denotes c.args.leaves.now in
-    let are = ap length (tuples_are c.args.points.now (tuples_of g.T.Theory.denotes c.of-tuples.result.now) c.of-tuples.ensures.list) in
-    let within : c.loop-point.point < length (of_function c.args.points.now 0) = omega (arith, c.loop-point-test.true, c.len-point-end.ensures, are, length-map c.of-tuples.result.now (vals_of g.T.Theory.denotes)) in
+    let leaves = chosen_of g.T.Theory.denotes c.args.task.now.leaves.now in
+    let are = ap length (tuples_are c.args.task.now.points.now (tuples_of g.T.Theory.denotes c.of-tuples.result.now) c.of-tuples.ensures.list) in
+    let within : c.loop-point.point < length (of_function c.args.task.now.points.now 0) = omega (arith, c.loop-point-test.true, c.len-point-end.ensures, are, length-map c.of-tuples.result.now (vals_of g.T.Theory.denotes)) in
     rw (c.in_ok-push.ensures.items, c.or-leaving.ensures) (record {
-      columns = columns_next (question_of g.T.Theory.denotes c.args.problem.now) (assignments_of (history_of g.T.Theory.denotes c.args.stored.now)) (of_function c.args.points.now 0) leaves c.loop-point.point c.loop-point.columns.items c.in_ok-column.column.goods c.in_ok-column.column.leaving c.loop-point.leaving within c.loop-point.invariant.columns c.in_ok-column.ensures.goods;
-      leaving = left_by (LeafLeaves (question_of g.T.Theory.denotes c.args.problem.now) (history_of g.T.Theory.denotes c.args.stored.now) leaves) c.in_ok-column.column.leaving c.loop-point.leaving c.in_ok-column.ensures.leaving c.loop-point.invariant.leaving;
+      columns = columns_next (question_of g.T.Theory.denotes c.args.task.now.problem.now) (assignments_of (history_of g.T.Theory.denotes c.args.task.now.stored.now)) (of_function c.args.task.now.points.now 0) leaves c.loop-point.point c.loop-point.columns.items c.in_ok-column.column.goods c.in_ok-column.column.leaving c.loop-point.leaving within c.loop-point.invariant.columns c.in_ok-column.ensures.goods;
+      leaving = left_by (LeafLeaves (question_of g.T.Theory.denotes c.args.task.now.problem.now) (history_of g.T.Theory.denotes c.args.task.now.stored.now) leaves) c.in_ok-column.column.leaving c.loop-point.leaving c.in_ok-column.ensures.leaving c.loop-point.invariant.leaving;
       memo = c.in_ok-column.ensures.memo;
     })
 
 pub returns-clause-goods : goal.returns-clause-goods
 returns-clause-goods g c none =
-    let leaves = chosen_of g.T.Theory.denotes c.args.leaves.now in
-    let are = ap length (tuples_are c.args.points.now (tuples_of g.T.Theory.denotes c.of-tuples.result.now) c.of-tuples.ensures.list) in
-    let done : length (of_function c.args.points.now 0) ≤ c.loop-point.point = omega (arith, c.loop-point-test.false, c.len-point-end.ensures, are, length-map c.of-tuples.result.now (vals_of g.T.Theory.denotes)) in
-    let many : length leaves ≡ length c.args.leaves.now = length-map c.args.leaves.now (λ (leaf : Bor (Kept _ _)). entry_of g.T.Theory.denotes leaf.now) in
-    goods_all (question_of g.T.Theory.denotes c.args.problem.now) (assignments_of (history_of g.T.Theory.denotes c.args.stored.now)) (of_function c.args.points.now 0) leaves c.loop-point.point c.loop-point.columns.items c.in_ok-rows.rows done (c.loop-point.invariant.columns none) (c.in_ok-rows.ensures.many ∙ sym many)
+    let leaves = chosen_of g.T.Theory.denotes c.args.task.now.leaves.now in
+    let are = ap length (tuples_are c.args.task.now.points.now (tuples_of g.T.Theory.denotes c.of-tuples.result.now) c.of-tuples.ensures.list) in
+    let done : length (of_function c.args.task.now.points.now 0) ≤ c.loop-point.point = omega (arith, c.loop-point-test.false, c.len-point-end.ensures, are, length-map c.of-tuples.result.now (vals_of g.T.Theory.denotes)) in
+    let many : length leaves ≡ length c.args.task.now.leaves.now = length-map c.args.task.now.leaves.now (λ (leaf : Bor (Kept _ _)). entry_of g.T.Theory.denotes leaf.now) in
+    goods_all (question_of g.T.Theory.denotes c.args.task.now.problem.now) (assignments_of (history_of g.T.Theory.denotes c.args.task.now.stored.now)) (of_function c.args.task.now.points.now 0) leaves c.loop-point.point c.loop-point.columns.items c.in_ok-rows.rows done (c.loop-point.invariant.columns none) (c.in_ok-rows.ensures.many ∙ sym many)
     (λ place less. c.in_ok-rows.ensures.rows place (omega (arith, less, many)) ∙ ap (λ (columns : List (List Bool)). row_from columns place) c.as_slice.ensures.value)
 
 pub good_column-requires-clause-distinct : goal.good_column-requires-clause-distinct
 good_column-requires-clause-distinct g c =
-    subst AreDistinct (sym (tuples_are c.args.points.now (tuples_of g.T.Theory.denotes c.of-tuples.result.now) c.of-tuples.ensures.list)) c.of-tuples.ensures.distinct
+    subst AreDistinct (sym (tuples_are c.args.task.now.points.now (tuples_of g.T.Theory.denotes c.of-tuples.result.now) c.of-tuples.ensures.list)) c.of-tuples.ensures.distinct
 
 pub returns-clause-many : goal.returns-clause-many
 returns-clause-many g c = c.in_ok-rows.ensures.many

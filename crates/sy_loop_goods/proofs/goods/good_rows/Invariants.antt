@@ -12,8 +12,8 @@ use Rattle.sy_loop_goods.proofs.goods.good_rows.Given as goal
 
 abbrev pub invariant-loop-point : goal.invariant-loop-point
 invariant-loop-point g l = record {
-  columns : l.leaving ≡ None → AreColumns (question_of g.T.Theory.denotes l.problem) (assignments_of (history_of g.T.Theory.denotes l.stored)) (chosen_of g.T.Theory.denotes l.leaves)
-      (take l.point (of_function l.points 0)) l.columns.items;
-  leaving : IfSome l.leaving (LeafLeaves (question_of g.T.Theory.denotes l.problem) (history_of g.T.Theory.denotes l.stored) (chosen_of g.T.Theory.denotes l.leaves));
-  memo : IsMemo g.T.Theory.denotes (question_of g.T.Theory.denotes l.problem) l.memo;
+  columns : l.leaving ≡ None → AreColumns (question_of g.T.Theory.denotes l.task.problem.now) (assignments_of (history_of g.T.Theory.denotes l.task.stored.now)) (chosen_of g.T.Theory.denotes l.task.leaves.now)
+      (take l.point (of_function l.task.points.now 0)) l.columns.items;
+  leaving : IfSome l.leaving (LeafLeaves (question_of g.T.Theory.denotes l.task.problem.now) (history_of g.T.Theory.denotes l.task.stored.now) (chosen_of g.T.Theory.denotes l.task.leaves.now));
+  memo : IsMemo g.T.Theory.denotes (question_of g.T.Theory.denotes l.task.problem.now) l.memo;
 }

@@ -13,7 +13,7 @@ use Rattle.sy_loop_goods.proofs.judging.judge.Goals as goal
 
 pub loop-rest-preserved : goal.loop-rest-preserved
 loop-rest-preserved g c =
-    let P = IsTrueAt (question_of g.T.Theory.denotes c.args.problem.now) (assignments_of (history_of g.T.Theory.denotes c.args.stored.now)) (map (expr_of g.T.Theory.denotes) c.args.bodies.now) in
+    let P = IsTrueAt (question_of g.T.Theory.denotes c.args.task.now.problem.now) (assignments_of (history_of g.T.Theory.denotes c.args.task.now.stored.now)) (map (expr_of g.T.Theory.denotes) c.args.bodies.now) in
     record {
       all = all_more P c.args.rests.now c.loop-rest.rest-index _ c.loop-rest-test.true c.loop-rest.invariant.all (All-head P _ [] (rw c.in-Good.is at c.in_ok-judge_one.ensures.judged));
       memo = c.in_ok-judge_one.ensures.memo;
@@ -21,17 +21,17 @@ loop-rest-preserved g c =
 
 pub returns-clause-judged : goal.returns-clause-judged
 returns-clause-judged g c =
-    all_done (IsTrueAt (question_of g.T.Theory.denotes c.args.problem.now) (assignments_of (history_of g.T.Theory.denotes c.args.stored.now)) (map (expr_of g.T.Theory.denotes) c.args.bodies.now)) c.args.rests.now c.loop-rest.rest-index (omega (arith, c.loop-rest-test.false)) c.loop-rest.invariant.all
+    all_done (IsTrueAt (question_of g.T.Theory.denotes c.args.task.now.problem.now) (assignments_of (history_of g.T.Theory.denotes c.args.task.now.stored.now)) (map (expr_of g.T.Theory.denotes) c.args.bodies.now)) c.args.rests.now c.loop-rest.rest-index (omega (arith, c.loop-rest-test.false)) c.loop-rest.invariant.all
 
 pub loop-rest-init : goal.loop-rest-init
 loop-rest-init g c = record {
-  all = All-nil (IsTrueAt (question_of g.T.Theory.denotes c.args.problem.now) (assignments_of (history_of g.T.Theory.denotes c.args.stored.now)) (map (expr_of g.T.Theory.denotes) c.args.bodies.now));
+  all = All-nil (IsTrueAt (question_of g.T.Theory.denotes c.args.task.now.problem.now) (assignments_of (history_of g.T.Theory.denotes c.args.task.now.stored.now)) (map (expr_of g.T.Theory.denotes) c.args.bodies.now));
   memo = c.requires.memo;
 }
 
 pub judge_one-requires-clause-rest : goal.judge_one-requires-clause-rest
 judge_one-requires-clause-rest g c =
-    All-get_or (IsRest (question_of g.T.Theory.denotes c.args.problem.now) (assignments_of (history_of g.T.Theory.denotes c.args.stored.now)) (of_function c.args.points.now 0)) c.args.rests.now c.loop-rest.rest-index _ c.loop-rest-test.true c.requires.rests
+    All-get_or (IsRest (question_of g.T.Theory.denotes c.args.task.now.problem.now) (assignments_of (history_of g.T.Theory.denotes c.args.task.now.stored.now)) (of_function c.args.task.now.points.now 0)) c.args.rests.now c.loop-rest.rest-index _ c.loop-rest-test.true c.requires.rests
 
 pub returns-in_err-judge_one-clause-judged : goal.returns-in_err-judge_one-clause-judged
 returns-in_err-judge_one-clause-judged g c = IfOk-from_err c.from_residual.result _ c.from_residual.ensures.0

@@ -10,6 +10,6 @@ use Rattle.sy_loop_goods.proofs.judging.judge.Given as goal
 
 abbrev pub invariant-loop-rest : goal.invariant-loop-rest
 invariant-loop-rest g l = record {
-  all : All (IsTrueAt (question_of g.T.Theory.denotes l.problem) (assignments_of (history_of g.T.Theory.denotes l.stored)) (map (expr_of g.T.Theory.denotes) l.bodies)) (take l.rest-index l.rests);
-  memo : IsMemo g.T.Theory.denotes (question_of g.T.Theory.denotes l.problem) l.memo;
+  all : All (IsTrueAt (question_of g.T.Theory.denotes l.task.problem.now) (assignments_of (history_of g.T.Theory.denotes l.task.stored.now)) (map (expr_of g.T.Theory.denotes) l.bodies)) (take l.rest-index l.rests);
+  memo : IsMemo g.T.Theory.denotes (question_of g.T.Theory.denotes l.task.problem.now) l.memo;
 }

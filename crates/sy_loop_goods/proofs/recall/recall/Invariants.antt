@@ -9,4 +9,4 @@ use Rattle.sy_loop_goods.proofs.recall.recall.Given as goal
 
 abbrev pub invariant-loop-rest : goal.invariant-loop-rest
 invariant-loop-rest g l =
-    All (IsTrueAt (question_of g.T.Theory.denotes l.problem) (assignments_of (history_of g.T.Theory.denotes l.stored)) ((entry_of g.T.Theory.denotes l.kept).term ∷ [])) (take l.rest-index l.rests)
+    All (IsTrueAt (question_of g.T.Theory.denotes l.task.problem.now) (assignments_of (history_of g.T.Theory.denotes l.task.stored.now)) ((entry_of g.T.Theory.denotes l.kept).term ∷ [])) (take l.rest-index l.rests)

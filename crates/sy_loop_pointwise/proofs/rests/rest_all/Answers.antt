@@ -13,41 +13,41 @@ use Rattle.sy_loop_pointwise.proofs.rests.rest_all.Goals as goal
 
 pub loop-place-preserved : goal.loop-place-preserved
 loop-place-preserved g c =
-    let widens = widens_then (question_of g.T.Theory.denotes c.args.problem.now) (history_of g.T.Theory.denotes c.args.stored.now) c.args.points.now c.loop-place.points c.rest_at.new.points c.loop-place.invariant.widens c.in_ok-placed.ensures.widens in
+    let widens = widens_then (question_of g.T.Theory.denotes c.args.task.now.problem.now) (history_of g.T.Theory.denotes c.args.stored.now) c.args.points.now c.loop-place.points c.rest_at.new.points c.loop-place.invariant.widens c.in_ok-placed.ensures.widens in
     elim c.match-placed.branch [
       | in-There w ↦
           let answer = rw w.in-There.is at c.in_ok-placed.ensures.answer in
           record {
             held = c.in_ok-placed.ensures.held;
             widens = widens;
-            so_far = rw w.new-is (next_there (question_of g.T.Theory.denotes c.args.problem.now) (history_of g.T.Theory.denotes c.args.stored.now) 0 0 c.loop-place.place 0 (c.loop-place.place + 1) 0 c.args.points.now c.loop-place.points c.rest_at.new.points [] c.loop-place.rests.items c.rest_at.new.rests.items c.loop-place.place c.loop-place.new c.loop-place.invariant.so_far answer);
+            so_far = rw w.new-is (next_there (question_of g.T.Theory.denotes c.args.task.now.problem.now) (history_of g.T.Theory.denotes c.args.stored.now) 0 0 c.loop-place.place 0 (c.loop-place.place + 1) 0 c.args.points.now c.loop-place.points c.rest_at.new.points [] c.loop-place.rests.items c.rest_at.new.rests.items c.loop-place.place c.loop-place.new c.loop-place.invariant.so_far answer);
           }
       | in-New w ↦
           let answer = rw w.in-New.is at c.in_ok-placed.ensures.answer in
           record {
             held = c.in_ok-placed.ensures.held;
             widens = widens;
-            so_far = rw w.new-is (next_new (question_of g.T.Theory.denotes c.args.problem.now) (history_of g.T.Theory.denotes c.args.stored.now) 0 0 c.loop-place.place 0 (c.loop-place.place + 1) 0 c.args.points.now c.loop-place.points c.rest_at.new.points [] c.loop-place.rests.items c.rest_at.new.rests.items c.loop-place.place c.loop-place.invariant.widens answer);
+            so_far = rw w.new-is (next_new (question_of g.T.Theory.denotes c.args.task.now.problem.now) (history_of g.T.Theory.denotes c.args.stored.now) 0 0 c.loop-place.place 0 (c.loop-place.place + 1) 0 c.args.points.now c.loop-place.points c.rest_at.new.points [] c.loop-place.rests.items c.rest_at.new.rests.items c.loop-place.place c.loop-place.invariant.widens answer);
           }
     ]
 
 pub returns-in-Full-clause-widens : goal.returns-in-Full-clause-widens
-returns-in-Full-clause-widens g c = widens_then (question_of g.T.Theory.denotes c.args.problem.now) (history_of g.T.Theory.denotes c.args.stored.now) c.args.points.now c.loop-place.points c.rest_at.new.points c.loop-place.invariant.widens c.in_ok-placed.ensures.widens
+returns-in-Full-clause-widens g c = widens_then (question_of g.T.Theory.denotes c.args.task.now.problem.now) (history_of g.T.Theory.denotes c.args.stored.now) c.args.points.now c.loop-place.points c.rest_at.new.points c.loop-place.invariant.widens c.in_ok-placed.ensures.widens
 
 pub returns-in-Leaves-clause-widens : goal.returns-in-Leaves-clause-widens
-returns-in-Leaves-clause-widens g c = widens_then (question_of g.T.Theory.denotes c.args.problem.now) (history_of g.T.Theory.denotes c.args.stored.now) c.args.points.now c.loop-place.points c.rest_at.new.points c.loop-place.invariant.widens c.in_ok-placed.ensures.widens
+returns-in-Leaves-clause-widens g c = widens_then (question_of g.T.Theory.denotes c.args.task.now.problem.now) (history_of g.T.Theory.denotes c.args.stored.now) c.args.points.now c.loop-place.points c.rest_at.new.points c.loop-place.invariant.widens c.in_ok-placed.ensures.widens
 
 pub returns-clause-answer : goal.returns-clause-answer
 returns-clause-answer g c =
     let so_far = rw c.if-new.false at c.loop-place.invariant.so_far in
     let done : length (assignments_of (history_of g.T.Theory.denotes c.args.stored.now)) ≤ c.loop-place.place = omega (arith, c.loop-place-test.false, c.len-place-end.ensures, length-map c.args.stored.now.items (counterexample_of g.T.Theory.denotes), length-map (history_of g.T.Theory.denotes c.args.stored.now) (λ (k : Counterexample). k.assignment)) in
-    let are = all_places (question_of g.T.Theory.denotes c.args.problem.now) (assignments_of (history_of g.T.Theory.denotes c.args.stored.now)) (of_function c.args.points.now 0) c.loop-place.place c.loop-place.rests.items done (so_far.1 (none_before (question_of g.T.Theory.denotes c.args.problem.now) (assignments_of (history_of g.T.Theory.denotes c.args.stored.now)) (of_function c.args.points.now 0))) in
-    (subst (λ asked. AreRests (question_of g.T.Theory.denotes c.args.problem.now) (assignments_of (history_of g.T.Theory.denotes c.args.stored.now)) (of_function asked 0) c.loop-place.rests.items) (sym so_far.0) are, so_far.0)
+    let are = all_places (question_of g.T.Theory.denotes c.args.task.now.problem.now) (assignments_of (history_of g.T.Theory.denotes c.args.stored.now)) (of_function c.args.points.now 0) c.loop-place.place c.loop-place.rests.items done (so_far.1 (none_before (question_of g.T.Theory.denotes c.args.task.now.problem.now) (assignments_of (history_of g.T.Theory.denotes c.args.stored.now)) (of_function c.args.points.now 0))) in
+    (subst (λ asked. AreRests (question_of g.T.Theory.denotes c.args.task.now.problem.now) (assignments_of (history_of g.T.Theory.denotes c.args.stored.now)) (of_function asked 0) c.loop-place.rests.items) (sym so_far.0) are, so_far.0)
 
 pub loop-place-init : goal.loop-place-init
 loop-place-init g c = rw c.new-rests.ensures.items (record {
   held = c.requires.held;
-  widens = widens_not (question_of g.T.Theory.denotes c.args.problem.now) (history_of g.T.Theory.denotes c.args.stored.now) c.args.points.now;
+  widens = widens_not (question_of g.T.Theory.denotes c.args.task.now.problem.now) (history_of g.T.Theory.denotes c.args.stored.now) c.args.points.now;
   so_far = (refl, λ first. first);
 })
 

@@ -7,7 +7,7 @@ use Rattle.sy_loop_pointwise.proofs.rests.rest_at.Given as goal
 
 abbrev pub invariant-loop-number : goal.invariant-loop-number
 invariant-loop-number g l = record {
-  held : IsHeld (question_of g.T.Theory.denotes l.problem) l.limits (history_of g.T.Theory.denotes l.stored) l.points;
-  widens : WidensByRests (question_of g.T.Theory.denotes l.problem) (history_of g.T.Theory.denotes l.stored) l.fn.points l.points;
-  so_far : SoFar (question_of g.T.Theory.denotes l.problem) (history_of g.T.Theory.denotes l.stored) l.place 0 l.place l.number l.fn.points l.fn.rests.items l.points l.rests.items l.new;
+  held : IsHeld (question_of g.T.Theory.denotes l.task.problem.now) l.task.limits.now (history_of g.T.Theory.denotes l.stored) l.points;
+  widens : WidensByRests (question_of g.T.Theory.denotes l.task.problem.now) (history_of g.T.Theory.denotes l.stored) l.fn.points l.points;
+  so_far : SoFar (question_of g.T.Theory.denotes l.task.problem.now) (history_of g.T.Theory.denotes l.stored) l.place 0 l.place l.number l.fn.points l.fn.rests.items l.points l.rests.items l.new;
 }

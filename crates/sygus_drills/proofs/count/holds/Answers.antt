@@ -3,7 +3,7 @@ use Rattle.std.proofs.lemmas.List.Elements.{All-nil}
 use Rattle.sy_terms.specs.Denoted.{val_of}
 use Rattle.sy_grammar_base.proofs.Candidates.{bodies_fit}
 use Rattle.sy_grammar_base.proofs.Problems.{problem_definitions}
-use Rattle.sygus_drills.proofs.Closed.{fits_closed, says_met, never_out}
+use Rattle.sygus_drills.proofs.Closed.{fits_closed, says_met, never_out, truth_told}
 use Rattle.sygus_drills.proofs.count.holds.Goals as goal
 
 pub evaluate_with-requires-clause-definitions : goal.evaluate_with-requires-clause-definitions
@@ -26,4 +26,4 @@ unreachable-requires g c =
 pub returns-in-Ok : goal.returns-in-Ok
 returns-in-Ok g c =
     let fit = bodies_fit g.T.Theory.owned g.T.Theory.numeric g.T.Theory.denotes c.args.problem.now c.args.bodies.now c.requires.problem g.met.T.Theory.negation c.requires.members in
-    rw c.is_true.ensures (says_met g.T.Theory.owned g.T.Theory.denotes c.args.problem.now c.args.bodies.now c.args.term.now fit c.requires.closed c.requires.term (val_of g.T.Theory.denotes c.in-Ok.value) (rw (c.as_slice.ensures, c.new-values.ensures) at c.in-Ok.ensures.ok))
+    rw (truth_told c.is_true.result (val_of g.T.Theory.denotes c.in-Ok.value) c.is_true.ensures) (says_met g.T.Theory.owned g.T.Theory.denotes c.args.problem.now c.args.bodies.now c.args.term.now fit c.requires.closed c.requires.term (val_of g.T.Theory.denotes c.in-Ok.value) (rw (c.as_slice.ensures, c.new-values.ensures) at c.in-Ok.ensures.ok))

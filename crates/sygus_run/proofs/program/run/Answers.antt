@@ -1,7 +1,7 @@
 use Rattle.std.proofs.Common.{refl, ap}
 use Rattle.std.proofs.lemmas.List.Elements.{All-nil}
 use Rattle.sygus_replies.specs.Replies.{IsSettled}
-use Rattle.sygus_input.proofs.Asking.{asks_judging, asks_one}
+use Rattle.sygus_words.proofs.Asking.{asks_judging, asks_one}
 use Rattle.sygus_replies.proofs.Steps.{lines-none}
 use Rattle.sygus_drills.proofs.Drilling.{ends_that}
 use Rattle.sygus_run.proofs.Ends as ends
