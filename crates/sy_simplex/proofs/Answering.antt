@@ -15,8 +15,10 @@ use Rattle.sy_simplex.specs.declared.answer.Feasible.TheVariants.{Point, Conflic
 use Rattle.sy_simplex.specs.Answers.{AnswerIsSound, TellsFeasible, IsPointAnswer, IsConflictAnswer}
 use Rattle.sy_simplex.specs.Problems.{system_of, numbers}
 use Rattle.sy_simplex.specs.Runs.{Ran, stepped, IsPoint, IsMultiplier, AreRowMultipliers}
-use Rattle.sy_simplex.proofs.Sound.{IsSteady, ran_steady, point_meets, point_is_corner}
+use Rattle.sy_simplex.proofs.Sound.{ran_steady, point_meets, point_is_corner}
 use Rattle.sy_simplex.proofs.Refuted.{given_refute}
+use Rattle.sy_simplex.proofs.Unraised.{stuck_unraised}
+use Rattle.sy_simplex.specs.Steady.{IsSteady}
 
 pub ran_shaped : (vars : ℕ) (forms : List Form) (steps : List (ℕ × ℕ)) (t : TableauState) → Ran vars forms steps t → IsShaped t
 ran_shaped vars forms steps t ran = let h : IsSteady vars forms t = ran_steady vars forms steps t ran in h.shape
@@ -30,7 +32,7 @@ point_sound vars forms steps t p ran met point =
     let h : IsSteady vars forms t = ran_steady vars forms steps t ran in
     (point.len ∙ h.vars_is, point_meets vars forms t h p point met, point_is_corner vars forms t h p point)
 
-multiplier_lowest : (t : TableauState) (r v : ℕ) (f : Fraction) → IsShaped t → r < length t.basics → IsMultiplier t r v f → IsLowest f
+pub multiplier_lowest : (t : TableauState) (r v : ℕ) (f : Fraction) → IsShaped t → r < length t.basics → IsMultiplier t r v f → IsLowest f
 multiplier_lowest t r v f h l (inl k) = subst IsLowest (sym k.1) (whole_lowest (pos 1) (omega arith))
 multiplier_lowest t r v f h l (inr (inl k)) = subst IsLowest (sym k.3) (opposite_lowest (coef t r k.0) (h.rows_lowest r l k.0 (omega (arith, h.widths r l, k.1))))
 multiplier_lowest t r v f h l (inr (inr k)) = subst IsLowest (sym k.2) zero_lowest
@@ -41,7 +43,7 @@ multipliers_lowest t r ms h l given i k = let below : i < length t.bounds = omeg
 pub conflict_sound : (vars : ℕ) (forms : List Form) (steps : List (ℕ × ℕ)) (t : TableauState) (r : ℕ) (ms : List Fraction) → Ran vars forms steps t → IsStuck t r → AreRowMultipliers t r ms → (length ms ≡ length forms) × IsRefutation (system_of vars forms) (numbers ms) × AreLowest ms
 conflict_sound vars forms steps t r ms ran stuck given =
     let h : IsSteady vars forms t = ran_steady vars forms steps t ran in
-    (given.len ∙ h.bounds_length, given_refute vars forms t h r stuck ms given, multipliers_lowest t r ms h.shape stuck.leaving.first.row_below given)
+    (given.len ∙ h.bounds_length, given_refute vars forms t h r (stuck_unraised t r stuck) ms given, multipliers_lowest t r ms h.shape stuck.leaving.first.row_below given)
 
 -- the same of answers, and that the run ends so
 pub point_answer_sound : (vars : ℕ) (forms : List Form) (steps : List (ℕ × ℕ)) (t : TableauState) (answer : Feasible) → Ran vars forms steps t → BoundsAreMet t → IsPointAnswer t answer → AnswerIsSound vars forms answer

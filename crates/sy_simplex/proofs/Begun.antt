@@ -1,5 +1,5 @@
 -- The initial tableau, made form by form.
-use Rattle.std.specs.Prelude.{◌≡◌, ℕ, ◌<◌, ◌+◌, ◌++◌, ◌∷◌, [], List, length, get_or, pos, neg_ℤ}
+use Rattle.std.specs.Prelude.{◌≡◌, ℕ, ◌<◌, ◌+◌, ◌++◌, ◌∷◌, [], List, length, pos, neg_ℤ}
 use Rattle.std.specs.Result.{IsErrAnd}
 use Rattle.std.proofs.Common.{Result, Ok, Err, refl, sym, ◌∙◌, ap, subst, arith, length-append, inl, inr, ◌⊎◌, true, false, ◌≢◌}
 use Rattle.std.proofs.Math.Dec.{eqb}
@@ -7,7 +7,6 @@ use Rattle.std.proofs.lemmas.Bool.Decides.{eqb_tells}
 use Rattle.sy_frac.specs.Fraction.{Fraction, IsInRange}
 use Rattle.sy_linear_known.specs.declared.form.Form.{Form}
 use Rattle.sy_simplex.specs.Operations.{fraction_of_whole, fraction_opposite}
-use Rattle.sy_simplex.specs.Rows.{at}
 use Rattle.sy_simplex.specs.States.{TableauState}
 use Rattle.sy_simplex.proofs.Pushed.{each_pushed}
 use Rattle.sy_simplex.specs.Problems.{form}

@@ -1,7 +1,7 @@
 -- A step of a tableau of fractions is an exchange of a tableau of rational numbers.
 use Rattle.std.specs.Prelude.{◌≡◌, ◌≢◌, ℕ, ◌<◌, ◌≤◌, ◌-◌, Bool, true, false, cond, nat_lt, length, pos, get_or}
 use Rattle.std.proofs.Common.{refl, sym, ◌∙◌, ap, ap₂, arith, inl, inr, ◌⊎◌, ltb-true, ltb-false}
-use Rattle.std.proofs.Math.Dec.{eqb, ltb}
+use Rattle.std.proofs.Math.Dec.{eqb}
 use Rattle.std.proofs.lemmas.Bool.Decides.{eqb_tells}
 use Rattle.std.proofs.lemmas.List.{get_or-set_same, get_or-set_other}
 use Rattle.sy_frac.specs.Rational.{ℚ, ◌+ℚ◌, ◌*ℚ◌, neg_ℚ, value as number, value_sum, +ℚ_comm, +ℚ_cancel, +ℚ-neg, zero-+ℚ, *ℚ_comm, neg_ℚ-*ℚ}
@@ -10,11 +10,9 @@ use Rattle.sy_simplex.specs.Operations.{fraction_opposite, fraction_of_whole}
 use Rattle.sy_simplex.specs.Rows.{at, beside, IsPutRow}
 use Rattle.sy_simplex.specs.States.{TableauState, variable_of_column, basic, row, coef, row_value, bound, rest, IsShaped, IsVariable, IsPivot}
 use Rattle.sy_simplex.proofs.Values.{zero_is, one_is, value_opposite, value_quotient, value_plus_product, value_shift}
-use Rattle.sy_simplex.proofs.Tables.{Table, IsExchange}
+use Rattle.sy_simplex.proofs.Tables.{IsExchange}
 use Rattle.sy_simplex.proofs.Balance.{IsShifted}
-
-abbrev pub table_of : TableauState → Table
-table_of t = record { basic = λ i. basic t i; nonbasic = λ j. variable_of_column t j; coef = λ i j. number (coef t i j) }
+use Rattle.sy_simplex.specs.Steady.{table_of}
 
 one_positive : 0 < 1
 one_positive = omega arith

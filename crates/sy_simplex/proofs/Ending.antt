@@ -8,12 +8,13 @@ use Rattle.sy_simplex.specs.declared.answer.Feasible.{Feasible}
 use Rattle.sy_simplex.specs.declared.answer.Feasible.TheVariants.{Point, Conflict, Pivots, Range}
 use Rattle.sy_simplex.specs.Answers.{TellsFeasible, IsPivots}
 use Rattle.sy_simplex.proofs.Bridge.{basic_variable}
-use Rattle.sy_simplex.proofs.Sound.{IsSteady, of_tableau}
+use Rattle.sy_simplex.proofs.Sound.{of_tableau}
 use Rattle.sy_simplex.proofs.Endings.{among, among_found, among_holds}
 use Rattle.sy_simplex.specs.Bases.{IsBasic, HaveSameBasis}
 use Rattle.sy_simplex.proofs.Counting.{Twice, pigeonhole, code, code_below, code_same}
 use Rattle.sy_simplex.proofs.Tracing.{state_at, steady_at, ran_at}
 use Rattle.sy_simplex.proofs.Returning.{no_basis_twice}
+use Rattle.sy_simplex.specs.Steady.{IsSteady}
 
 -- the basic variables, as a test
 in_basis : TableauState → ℕ → Bool

@@ -6,7 +6,8 @@ use Rattle.std.proofs.lemmas.Bool.Decides.{eqb_tells}
 use Rattle.sy_frac.specs.Rational.{ℚ, 0ℚ, 1ℚ, ◌+ℚ◌, ◌*ℚ◌, neg_ℚ, is_negative_rational, not_negative_plus, zero_not_negative, one_not_negative, +ℚ_cancel, +ℚ_comm, +ℚ_zero, zero-+ℚ, +ℚ-neg, *ℚ_zero, zero-*ℚ, one-*ℚ, *ℚ-+ℚ, +ℚ-*ℚ, neg_ℚ-*ℚ}
 use Rattle.sy_linear_known.specs.Total.{total, total-same, total-plus, total_zero, total_split, zero_at, without_same, without_other, combined_total}
 use Rattle.sy_linear_known.specs.Systems.{System, form_at_point, MeetsSystem, IsRefutation, IsCorner, total_not_negative}
-use Rattle.sy_simplex.proofs.Tables.{Table, Holds, initial, basics_agree}
+use Rattle.sy_simplex.proofs.Tables.{basics_agree}
+use Rattle.sy_simplex.specs.Steady.{Table, Holds, initial}
 
 -- ---- points and assignments
 -- the assignment of a point: a form variable has the value of the form's linear part
@@ -96,7 +97,7 @@ total_pick_zero n u g = total-same n (λ i. pick u i 0ℚ *ℚ g i) (λ i. 0ℚ)
 unfoldable pub spread : ℕ → (ℕ → ℕ) → (ℕ → ℚ) → ℕ → ℚ
 spread columns form c i = total columns (λ j. pick (form j) i (c j))
 
-total_spread : (count columns : ℕ) (form : ℕ → ℕ) (c g : ℕ → ℚ) → ((j : ℕ) → j < columns → (c j ≡ 0ℚ) ⊎ (form j < count)) → total count (λ i. spread columns form c i *ℚ g i) ≡ total columns (λ j. c j *ℚ g (form j))
+pub total_spread : (count columns : ℕ) (form : ℕ → ℕ) (c g : ℕ → ℚ) → ((j : ℕ) → j < columns → (c j ≡ 0ℚ) ⊎ (form j < count)) → total count (λ i. spread columns form c i *ℚ g i) ≡ total columns (λ j. c j *ℚ g (form j))
 unfolding spread total
 total_spread count zero form c g h = total-same count (λ i. 0ℚ *ℚ g i) (λ i. 0ℚ) (λ i l. zero-*ℚ (g i)) ∙ total_zero count
 total_spread count (suc n) form c g h =

@@ -18,11 +18,12 @@ use Rattle.sy_simplex.specs.Problems.{form}
 use Rattle.sy_simplex.specs.Runs.{Ran}
 use Rattle.sy_simplex.specs.Bases.{IsBasic, HaveSameBasis, IsAtRest, HaveSameRows}
 use Rattle.sy_simplex.proofs.Values.{value_opposite}
-use Rattle.sy_simplex.proofs.Tables.{Holds, basics_agree}
+use Rattle.sy_simplex.proofs.Tables.{basics_agree}
 use Rattle.sy_simplex.proofs.Places.{assigned, assigned_row, assigned_other}
-use Rattle.sy_simplex.proofs.Bridge.{table_of, rest_bound, rest_free, column_variable}
+use Rattle.sy_simplex.proofs.Bridge.{rest_bound, rest_free, column_variable}
 use Rattle.sy_simplex.proofs.Endings.{neg_zero, pick, pick_same, pick_other, total_pick}
-use Rattle.sy_simplex.proofs.Sound.{IsSteady, ran_steady, assignment, at_row, at_column, holds, of_tableau}
+use Rattle.sy_simplex.proofs.Sound.{ran_steady, assignment, at_row, at_column, holds, of_tableau}
+use Rattle.sy_simplex.specs.Steady.{Holds, table_of, IsSteady}
 
 -- ---- a fraction in lowest terms is the only one of its number
 not_negative_is : (n : ℤ) → int_lt n (pos 0) ≡ false → int_lt (neg_ℤ n) (pos 0) ≡ false → n ≡ pos 0

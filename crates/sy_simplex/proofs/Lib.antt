@@ -23,5 +23,6 @@ pub mod Sound
 pub mod TableauPlaces
 pub mod Tables
 pub mod Tracing
+pub mod Unraised
 pub mod Values
 pub mod Zeros

@@ -13,9 +13,10 @@ use Rattle.sy_simplex.specs.declared.answer.Feasible.{Feasible}
 use Rattle.sy_simplex.specs.declared.answer.Feasible.TheVariants.{Point, Conflict, Pivots, Range}
 use Rattle.sy_simplex.specs.Answers.{TellsFeasible, IsSameAnswer}
 use Rattle.sy_simplex.specs.Runs.{FormFits, IsInitial, Ran, begun, stepped, IsValue, IsPoint, EndsAt, EndsStuck, RunIsSpent, IsOutOfRange, form_unfit, choice_unfit, step_unfit}
-use Rattle.sy_simplex.proofs.Sound.{IsSteady, ran_steady}
+use Rattle.sy_simplex.proofs.Sound.{ran_steady}
 use Rattle.sy_simplex.proofs.Answering.{entering_nonzero}
 use Rattle.sy_simplex.proofs.Determined.{same_state, step_same, step_fits}
+use Rattle.sy_simplex.specs.Steady.{IsSteady}
 
 -- ---- the choice
 first_same : (t : TableauState) (r s : ℕ) → FirstUnclear t (length t.basics) r → FirstUnclear t (length t.basics) s → basic t r ≡ basic t s

@@ -4,12 +4,7 @@ use Rattle.std.proofs.Common.{refl, sym, ◌∙◌, ap, arith, inl, inr, ◌⊎�
 use Rattle.std.proofs.Math.Dec.{eqb}
 use Rattle.std.proofs.lemmas.Bool.Decides.{eqb_tells}
 use Rattle.sy_frac.specs.Rational.{ℚ}
-
-pub record ArePlaced (rows columns vars : ℕ) (basic nonbasic : ℕ → ℕ) : Type 0 where
-  pub rows_differ : (i k : ℕ) → i < rows → k < rows → basic i ≡ basic k → i ≡ k
-  pub columns_differ : (j k : ℕ) → j < columns → k < columns → nonbasic j ≡ nonbasic k → j ≡ k
-  pub apart : (i j : ℕ) → i < rows → j < columns → basic i ≢ nonbasic j
-  pub somewhere : (u : ℕ) → u < vars → ((i : ℕ) × (i < rows) × (basic i ≡ u)) ⊎ ((j : ℕ) × (j < columns) × (nonbasic j ≡ u))
+use Rattle.sy_simplex.specs.Steady.{ArePlaced}
 
 -- b is a but at r, where it is x
 pub record IsChanged (n r : ℕ) (x : ℕ) (a b : ℕ → ℕ) : Type 0 where

@@ -16,14 +16,14 @@ use Rattle.sy_simplex.specs.States.{TableauState, variable_of_column, basic, row
 use Rattle.sy_simplex.specs.Problems.{form}
 use Rattle.sy_simplex.specs.Runs.{Ran}
 use Rattle.sy_simplex.proofs.Values.{less_negative, not_less_negative, opposite_not_negative, zero_numerator, lt_false}
-use Rattle.sy_simplex.proofs.Tables.{Holds}
 use Rattle.sy_simplex.proofs.Bridge.{coef_positive, value_positive, bound_positive, column_variable, basic_variable, neg_neg, times_neg}
-use Rattle.sy_simplex.proofs.Sound.{IsSteady, assignment, holds, at_row, constant, bound_number, of_tableau, column_zero, first_holds, row_met}
+use Rattle.sy_simplex.proofs.Sound.{assignment, holds, at_row, constant, bound_number, of_tableau, column_zero, first_holds, row_met}
 use Rattle.sy_simplex.proofs.Refuted.{zero_between}
 use Rattle.sy_simplex.proofs.Outcomes.{Goes, runs_same}
 use Rattle.sy_simplex.specs.Bases.{IsBasic, HaveSameBasis}
 use Rattle.sy_simplex.proofs.Rotating.{Rotates, Turns, turns}
 use Rattle.sy_simplex.proofs.Tracing.{state_at, row_at, column_at, steady_at, ran_at, goes_at, state_last}
+use Rattle.sy_simplex.specs.Steady.{Holds, IsSteady}
 
 -- ---- what a step does to the basis
 module _ (vars : ℕ) (forms : List Form) (t u : TableauState) (steady : IsSteady vars forms t) (r e : ℕ) (goes : Goes t r e u) where

@@ -16,27 +16,12 @@ use Rattle.sy_simplex.proofs.Shapes.{step_shaped}
 use Rattle.sy_simplex.specs.Problems.{coefficient, form, system_of, numbers}
 use Rattle.sy_simplex.specs.Runs.{FormFits, IsInitial, Ran, begun, stepped, IsValue, IsPoint}
 use Rattle.sy_simplex.proofs.Values.{zero_is, value_opposite, not_less_negative}
-use Rattle.sy_simplex.proofs.Tables.{Holds, IsExchange, initial, exchange_keeps, exchange_back}
+use Rattle.sy_simplex.proofs.Tables.{IsExchange, exchange_keeps, exchange_back}
 use Rattle.sy_simplex.proofs.Balance.{balanced_after}
-use Rattle.sy_simplex.proofs.Places.{ArePlaced, placed_after, assigned, assigned_row, assigned_other}
-use Rattle.sy_simplex.proofs.Bridge.{table_of, value_positive, bound_positive, rest_bound, rest_free, column_variable, exchanged, shifted, neg_neg}
+use Rattle.sy_simplex.proofs.Places.{placed_after, assigned, assigned_row, assigned_other}
+use Rattle.sy_simplex.proofs.Bridge.{value_positive, bound_positive, rest_bound, rest_free, column_variable, exchanged, shifted, neg_neg}
 use Rattle.sy_simplex.proofs.Endings.{AtRest, bounds_met, rests_at_corner}
-
--- the coefficients of the forms as rational numbers
-abbrev pub linear : List Form → ℕ → ℕ → ℚ
-linear forms i j = over (coefficient (form forms i).coefs j) 1
-
-pub record IsSteady (vars : ℕ) (forms : List Form) (t : TableauState) : Type 0 where
-  pub shape : IsShaped t
-  pub vars_is : t.vars ≡ vars
-  pub columns_length : length t.columns ≡ vars
-  pub basics_length : length t.basics ≡ length forms
-  pub bounds_length : length t.bounds ≡ length forms
-  pub bounds_are : (i : ℕ) → i < length forms → at t.bounds i ≡ fraction_of_whole (neg_ℤ (form forms i).constant)
-  pub onto : (v : ℕ → ℚ) → Holds vars (length forms) (initial vars (linear forms)) v → Holds vars (length forms) (table_of t) v
-  pub back : (v : ℕ → ℚ) → Holds vars (length forms) (table_of t) v → Holds vars (length forms) (initial vars (linear forms)) v
-  pub balanced : (i : ℕ) → i < length forms → number (row_value t i) ≡ combined_total vars (λ j. number (coef t i j)) (λ j. number (rest t (variable_of_column t j)))
-  pub placed : ArePlaced (length forms) vars (vars + length forms) (λ i. basic t i) (λ j. variable_of_column t j)
+use Rattle.sy_simplex.specs.Steady.{Holds, initial, ArePlaced, table_of, linear, IsSteady}
 
 -- ---- the beginning
 zero_fits : IsInRange (pos 0)
@@ -235,7 +220,7 @@ module _ (vars : ℕ) (forms : List Form) (t : TableauState) (steady : IsSteady 
 
   -- ---- the point
   module _ (p : List Fraction) (point : IsPoint t p) where
-    point_is : (v : ℕ) → v < vars → numbers p v ≡ assignment v
+    pub point_is : (v : ℕ) → v < vars → numbers p v ≡ assignment v
     unfolding numbers assignment
     point_is v l = by (point.each v (omega (arith, steady.vars_is, l)))
       where

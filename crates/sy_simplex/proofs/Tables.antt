@@ -1,25 +1,12 @@
 -- Tableaus over the rational numbers: what one says of an assignment, and that an exchange of a basic and a nonbasic variable keeps it.
 -- An assignment gives a number to every variable. Below `vars` stand the free variables, and `vars + i` is the variable of form i.
-use Rattle.std.specs.Prelude.{◌≡◌, ◌≢◌, ℕ, ◌<◌, ◌+◌, true, false}
+use Rattle.std.specs.Prelude.{◌≡◌, ◌≢◌, ℕ, ◌<◌, true, false}
 use Rattle.std.proofs.Common.{sym, ◌∙◌, ap, subst, inl, inr, ◌⊎◌}
 use Rattle.std.proofs.Math.Dec.{eqb}
 use Rattle.std.proofs.lemmas.Bool.Decides.{eqb_tells}
 use Rattle.sy_frac.specs.Rational.{ℚ, ◌*ℚ◌}
 use Rattle.sy_linear_known.specs.Total.{total-same, combined_total, replaced, replaced_same, replaced_other, IsSolved, IsPut, solved_gives, put_gives, solved_back, put_back}
-
--- rows and columns with their variables, and the coefficients of the rows
-pub record Table : Type 0 where
-  pub basic : ℕ → ℕ
-  pub nonbasic : ℕ → ℕ
-  pub coef : ℕ → ℕ → ℚ
-
--- each basic variable is its combination of the nonbasic ones
-unfoldable pub Holds : (columns rows : ℕ) → Table → (ℕ → ℚ) → Type 0
-Holds columns rows t x = (i : ℕ) → i < rows → x (t.basic i) ≡ combined_total columns (t.coef i) (λ j. x (t.nonbasic j))
-
--- at first the form variables are basic, and stand for the linear parts of the forms
-unfoldable pub initial : ℕ → (ℕ → ℕ → ℚ) → Table
-initial vars linear = record { basic = λ i. vars + i; nonbasic = λ j. j; coef = linear }
+use Rattle.sy_simplex.specs.Steady.{Table, Holds}
 
 -- the variable of row r and that of column e change places
 pub record IsExchange (columns rows r e : ℕ) (t u : Table) : Type 0 where

@@ -6,8 +6,9 @@ use Rattle.std.proofs.lemmas.Bool.Decides.{eqb_tells}
 use Rattle.sy_linear_known.specs.declared.form.Form.{Form}
 use Rattle.sy_simplex.specs.States.{TableauState, variable_of_column, basic}
 use Rattle.sy_simplex.specs.Runs.{Ran, begun, stepped}
-use Rattle.sy_simplex.proofs.Sound.{IsSteady, ran_steady}
+use Rattle.sy_simplex.proofs.Sound.{ran_steady}
 use Rattle.sy_simplex.proofs.Outcomes.{Goes}
+use Rattle.sy_simplex.specs.Steady.{IsSteady}
 
 -- the tableau after k steps
 unfoldable pub state_at : {vars : ℕ} {forms : List Form} {steps : List (ℕ × ℕ)} {u : TableauState} → Ran vars forms steps u → ℕ → TableauState

@@ -8,3 +8,4 @@ pub mod Rows
 pub mod Runs
 pub mod Stated
 pub mod States
+pub mod Steady

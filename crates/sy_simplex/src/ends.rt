@@ -25,7 +25,7 @@ pub fn value_of(tableau: &Tableau, variable: u32) -> Frac
 }
 
 /// The values of the free variables.
-pub(crate) fn point(alloc: Global, tableau: &Tableau) -> Result<Seq<Frac>, Want>
+pub fn point(alloc: Global, tableau: &Tableau) -> Result<Seq<Frac>, Want>
     requires { IsShaped (tableau_state_of tableau.now) }
     ensures { IfOk result (λ point. IsPoint (tableau_state_of tableau.now) point) }
 {

@@ -15,7 +15,7 @@ mod tableau;
 
 pub use answer::{Ended, Feasible, Run};
 pub use choice::Choice;
-pub use ends::{multiplier, value_of};
+pub use ends::{multiplier, point, value_of};
 pub use fault::Fault;
 pub use forms::{are_forms, is_form};
 pub use fractions::{negated, one, whole, zero};
