@@ -35,7 +35,10 @@ fn value_at(found: &Feasible, variable: u32) -> Option<i128> {
 
 /// The last variable's value where the forms are met, or nothing.
 fn last_of(alloc: Global, count: u32, forms: &Seq<Form>) -> Result<Option<i128>, Want> {
-    if count == 0 || !are_forms(count, forms.as_slice()) {
+    if count == 0 || count >= 1 << 31 || forms.len() >= 1 << 31 {
+        return Ok(None);
+    }
+    if !are_forms(count, forms.as_slice()) {
         return Ok(None);
     }
     let found = feasible(alloc, count, forms, 1_000_000)?;

@@ -21,7 +21,8 @@ fn number_of(function: Fun) -> u32
 }
 
 impl<T: Theory> Phrase<T> {
-    /// The term, where so many positions are in force outside: `let` names take those behind them.
+    /// The term, where so many positions are in force outside: `let` names take those behind them. `Want` comes also where
+    /// 32 bits don't count one of these positions.
     #[cycle(term)]
     pub fn term(&self, alloc: Global, outside: u32) -> Result<Term<T>, Want>
         ensures { IfOk result (λ term. expr_of T.denotes term ≡ spec.expr_at outside (phrase_of T.denotes self.now)) }

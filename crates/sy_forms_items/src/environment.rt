@@ -39,7 +39,7 @@ pub enum Sense<'a> {
     Withheld,
 }
 
-/// The last of the names that is this one: its place and its sort.
+/// The last of the names that is this one: its place and its sort. `Want` comes where 32 bits don't count its place.
 pub fn place_among(names: &[Named], name: &[u8]) -> Result<Option<(u32, Sort)>, Want>
     ensures { IfOk result (λ found. found ≡ spec.place_among name.now names.now) }
 {

@@ -66,7 +66,7 @@ impl Locals {
         }
     }
 
-    /// Appends a name.
+    /// Appends a name. `Want` comes also where there are 2^32 already.
     pub fn push(&mut self, named: Named) -> Result<(), Want>
         ensures ok { OnOk result (self.new ≡ self.old ++ named ∷ []) }
         ensures err { OnErr result (self.new ≡ self.old) }

@@ -1,7 +1,7 @@
 // Nonterminals that chain rules reach.
 ghost use Rattle.std.specs.Prelude.{◌≡◌, ℕ, ◌<◌, ◌^◌, ◌↔◌, IsTrue, length, map, MatchOption, IfOk, Some, slice_get, true, false};
 ghost use Rattle.sy_grammar_base.specs.Patterns.{Occurrence};
-ghost use Rattle.sy_grammar_base.specs.Trees.{Template};
+ghost use Rattle.sy_grammar_base.specs.Trees.{IsNumbered, Template};
 ghost use Rattle.sy_grammar_base.specs.Grown.{production_of, syntax_from};
 ghost use Rattle.sy_grammar_sizes.specs.Chains.{AreClosures, IsAscending, IsListed};
 ghost use Rattle.sy_grammar_sizes.specs.Marking.{AreMarks, IsNextMark, AreFull, IsNamed, AreMarked};
@@ -11,13 +11,10 @@ use sy_grammar_base::{Grammar, Part, Rule};
 use sy_terms::{Seq, Theory, Want};
 
 /// For each nonterminal, itself and all that chain rules reach from it, ascending. A chain rule is a nonterminal alone.
-/// `Want` comes also where there are more nonterminals than numbers of 32 bits.
 pub fn chain_closure<T: Theory>(alloc: Global, g: &Grammar<T>) -> Result<Seq<Seq<u32>>, Want>
+    requires { IsNumbered (syntax_from T.denotes g.now) }
     ensures { IfOk result (λ lists. AreClosures (syntax_from T.denotes g.now) lists) }
 {
-    if g.nons().len() > u32::MAX as usize {
-        return Err(AllocError);
-    }
     let mut lists = Seq::new(alloc);
     for from in 0..g.nons().len() {
         let marks = reached(alloc, g, from)?;

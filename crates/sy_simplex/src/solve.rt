@@ -1,5 +1,5 @@
 // The run from the initial tableau to its answer.
-ghost use Rattle.std.specs.Prelude.{◌<◌, ◌≤◌, ◌+◌, ◌^◌, ◌↔◌, length, IfOk, IsTrue};
+ghost use Rattle.std.specs.Prelude.{◌<◌, ◌≤◌, ◌+◌, ◌^◌, length, IfOk};
 ghost use Rattle.sy_simplex.specs.States.{IsShaped};
 ghost use Rattle.sy_simplex.specs.Stated.{tableau_state_of};
 ghost use Rattle.sy_simplex.specs.Problems.{AreForms};
@@ -14,13 +14,6 @@ use crate::tableau::Tableau;
 use std::alloc::{AllocError, Global};
 use sy_linear_known::Form;
 use sy_seq::{Seq, Want};
-
-/// Whether there are fewer than 2^31 variables, and as few forms.
-fn are_few(vars: u32, forms: &[Form]) -> bool
-    ensures { IsTrue result ↔ ((vars < 2 ^ 31) × (length forms.now < 2 ^ 31)) }
-{
-    vars < 1 << 31 && forms.len() < 1 << 31
-}
 
 /// The end of a run at a tableau all of whose bounds are met.
 fn at_corner(alloc: Global, tableau: Tableau) -> Result<Ended, Want>
@@ -61,16 +54,15 @@ fn stuck(alloc: Global, tableau: Tableau, row: usize) -> Result<Ended, Want>
 /// `Point` is the corner of the forms at which the run ends. `Conflict` gives multipliers that combine the forms to a
 /// negative constant. `Pivots` comes exactly where the run has taken `pivots` steps and is at neither end, `Range`
 /// exactly where an operation that follows the given steps doesn't fit: one of the next step, or, after `pivots` steps,
-/// of its choice. More than 2^31 - 1 variables or forms are answered as want of memory.
+/// of its choice.
 pub fn ended(alloc: Global, vars: u32, bounds: &Seq<Form>, pivots: u32) -> Result<Ended, Want>
-    requires { AreForms vars bounds.now }
+    requires forms { AreForms vars bounds.now }
+    requires few_vars { vars < 2 ^ 31 }
+    requires few_forms { length bounds.now < 2 ^ 31 }
     ensures sound { IfOk result (λ ended. AnswerIsSound vars bounds.now ended.answer) }
     ensures exact { IfOk result (λ ended. TellsFeasible vars bounds.now pivots ended.answer) }
 {
     let forms = bounds.as_slice();
-    if !are_few(vars, forms) {
-        return Err(AllocError);
-    }
     let mut steps = Seq::new(alloc);
     let mut tableau = match initial(alloc, vars, forms) {
         Ok(tableau) => tableau,
@@ -143,7 +135,9 @@ pub fn ended(alloc: Global, vars: u32, bounds: &Seq<Form>, pivots: u32) -> Resul
 /// The answer of `ended`, without the tableau. It isn't `Pivots` where there are as many steps as sets of the
 /// variables, of which each form has one.
 pub fn feasible(alloc: Global, vars: u32, bounds: &Seq<Form>, pivots: u32) -> Result<Feasible, Want>
-    requires { AreForms vars bounds.now }
+    requires forms { AreForms vars bounds.now }
+    requires few_vars { vars < 2 ^ 31 }
+    requires few_forms { length bounds.now < 2 ^ 31 }
     ensures sound { IfOk result (λ answer. AnswerIsSound vars bounds.now answer) }
     ensures exact { IfOk result (λ answer. TellsFeasible vars bounds.now pivots answer) }
     ensures ends { 2 ^ (vars + length bounds.now) ≤ pivots → IfOk result (λ answer. ¬ (IsPivots answer)) }

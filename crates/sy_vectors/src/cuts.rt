@@ -17,6 +17,7 @@ fn cut_of(rt: &impl Abort, alloc: Global, text: &str) -> Option<Form> {
         facts.push(fact).expect(rt, "memory");
     }
     assert!(rt; are_forms(2, forms.as_slice()));
+    assert!(rt; forms.len() < 1 << 31);
     let end = ended(alloc, 2, &forms, 99).expect(rt, "memory");
     let found = match (&end.answer, &end.last) {
         (Feasible::Point(point), Some(tableau)) => {

@@ -76,7 +76,7 @@ fn listed(rt: &impl Abort, alloc: Global, word: &str, fractions: &[Frac]) -> Res
 pub fn answer(rt: &impl Abort, alloc: Global, row: &str) -> Result<String, Want> {
     let vars = number(row, 0);
     let forms = forms(rt, alloc, field(row, 1));
-    if !are_forms(vars, forms.as_slice()) {
+    if vars >= 1 << 31 || forms.len() >= 1 << 31 || !are_forms(vars, forms.as_slice()) {
         return String::from_str(alloc, "unfit");
     }
     let found = feasible(alloc, vars, &forms, number(row, 2)).expect(rt, "memory");

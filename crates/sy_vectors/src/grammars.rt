@@ -1,4 +1,7 @@
 // Small grammars: rules that fit, closures of chain rules, largest sizes, derivations and their sizes.
+ghost use Rattle.sy_grammar_base.specs.Trees.{IsNumbered};
+ghost use Rattle.sy_grammar_base.specs.Grown.{syntax_from};
+
 use crate::evaluation::values;
 use crate::operators::operator;
 use crate::rows::{are_numbers, field, number};
@@ -62,7 +65,9 @@ pub fn does_nothing_fit(alloc: Global) -> bool {
 }
 
 /// Whether chain rules reach just these from each nonterminal.
-fn reaches<T: Theory>(rt: &impl Abort, alloc: Global, grammar: &Grammar<T>, told: &str) -> bool {
+fn reaches<T: Theory>(rt: &impl Abort, alloc: Global, grammar: &Grammar<T>, told: &str) -> bool
+    requires { IsNumbered (syntax_from T.denotes grammar.now) }
+{
     let lists = chain_closure(alloc, grammar).expect(rt, "a closure");
     let mut texts = told.split(';');
     let mut are_told = true;
@@ -135,7 +140,9 @@ fn is_told<T: Theory>(
     grammar: &Grammar<T>,
     found: &Option<Derivation<T>>,
     row: &str,
-) -> bool {
+) -> bool
+    requires { IsNumbered (syntax_from T.denotes grammar.now) }
+{
     match field(row, 2) {
         "reaches" => reaches(rt, alloc, grammar, field(row, 3)),
         "largest" => is_largest(rt, alloc, grammar, row),

@@ -16,7 +16,7 @@ pub listed-requires : goal.listed-requires
 listed-requires g c =
     let sized = length-map c.args.g.now.nons (nonterminal_of g.T.Theory.denotes) in
     let h = c.in_ok-marks.ensures.sized in
-    grind (arith, sized, h)
+    omega (arith, sized, h, c.requires.nonterminals)
 
 pub returns-in_err-marks : goal.returns-in_err-marks
 returns-in_err-marks g c = IfOk-from_err c.from_residual.result _ c.from_residual.ensures.0

@@ -47,14 +47,10 @@ pub stuck-requires-clause-shaped : goal.stuck-requires-clause-shaped
 stuck-requires-clause-shaped c = ran_shaped c.args.vars c.args.bounds.now c.loop-tableau.steps _ c.loop-tableau.invariant.ran
 
 pub stuck-requires-clause-few_vars : goal.stuck-requires-clause-few_vars
-stuck-requires-clause-few_vars c =
-    let few : (c.args.vars < 2 ^ 31) × (length c.as_slice-forms.result.now < 2 ^ 31) = c.are_few.ensures.0 c.if-not-are_few.false in
-    (ran_few c.args.vars c.args.bounds.now c.loop-tableau.steps (tableau_state_of c.loop-tableau.tableau) (2 ^ 31) c.loop-tableau.invariant.ran few.0 (subst (λ fs. length fs < 2 ^ 31) c.as_slice-forms.ensures few.1)).0
+stuck-requires-clause-few_vars c = (ran_few c.args.vars c.args.bounds.now c.loop-tableau.steps (tableau_state_of c.loop-tableau.tableau) (2 ^ 31) c.loop-tableau.invariant.ran c.requires.few_vars c.requires.few_forms).0
 
 pub stuck-requires-clause-few_forms : goal.stuck-requires-clause-few_forms
-stuck-requires-clause-few_forms c =
-    let few : (c.args.vars < 2 ^ 31) × (length c.as_slice-forms.result.now < 2 ^ 31) = c.are_few.ensures.0 c.if-not-are_few.false in
-    (ran_few c.args.vars c.args.bounds.now c.loop-tableau.steps (tableau_state_of c.loop-tableau.tableau) (2 ^ 31) c.loop-tableau.invariant.ran few.0 (subst (λ fs. length fs < 2 ^ 31) c.as_slice-forms.ensures few.1)).1
+stuck-requires-clause-few_forms c = (ran_few c.args.vars c.args.bounds.now c.loop-tableau.steps (tableau_state_of c.loop-tableau.tableau) (2 ^ 31) c.loop-tableau.invariant.ran c.requires.few_vars c.requires.few_forms).1
 
 pub returns-in-Some-Stuck-clause-sound : goal.returns-in-Some-Stuck-clause-sound
 returns-in-Some-Stuck-clause-sound c =
