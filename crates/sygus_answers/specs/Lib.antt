@@ -1,3 +1,4 @@
 pub mod Answers
 pub mod Complete
 pub mod RightAnswers
+pub mod Begun

@@ -16,8 +16,9 @@ ghost use Rattle.sy_scope.specs.Fit.{JobFits, ProblemsFit};
 ghost use Rattle.sy_scope.specs.Read.{wish_in, wish_over};
 ghost use Rattle.sygus_verdicts.specs.Lines.{memory_line};
 ghost use Rattle.sygus_words.specs.Inputs.{judges};
-ghost use Rattle.sygus_judged.specs.Claimed.{EndsClaims, EndsReplies, IsTold};
+ghost use Rattle.sygus_judged.specs.Claimed.{EndsClaims, EndsReplies, IsLineFor, IsTold};
 ghost use Rattle.sygus_judged.specs.Judging as spec;
+ghost use Rattle.sygus_answers.specs.Begun.{BeginsLine};
 
 use std::alloc::Global;
 use sy_bits::BvDecide;
@@ -261,6 +262,7 @@ fn refused_replies<E: Sink>(alloc: Global, file: &[u8], end: ReplyEnd, err: &mut
     ensures write { result.status ≡ 5 → Rose (E.faults err.old) (E.faults err.new) }
     ensures memory_line { result.status ≡ 6 → Appends (E.written err.old) (E.written err.new) memory_line }
     ensures refused { result.status ≡ 7 → IsTold end file.now (E.written err.old) (E.written err.new) }
+    ensures cut_line { result.status ≡ 5 → BeginsLine (IsLineFor end file.now) (E.written err.old) (E.written err.new) }
 {
     match end {
         ReplyEnd::Refused(refused) => match reply_refusal_text(alloc, file, &refused) {

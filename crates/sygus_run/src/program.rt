@@ -2,13 +2,13 @@
 ghost use Rattle.std.specs.Prelude.{ℕ, List, ◌≡◌, ◌≢◌, ◌≤◌, ◌⊎◌, ◌++◌, map, string_bytes, All, Any};
 ghost use Rattle.std.specs.Io.KnownBytes.{Appends};
 ghost use Rattle.sy_io.specs.Causes.{Rose};
-ghost use Rattle.sygus_replies.specs.Answered.{WritesMostFails};
 ghost use Rattle.sygus_replies.specs.Replies.{IsSettled, IsFail};
 ghost use Rattle.sygus_replies.specs.Texts.{answer_lines, words_line, read_line, memory_line};
 ghost use Rattle.sygus_answers.specs.Answers.{replies_of, AreNamedFor};
+ghost use Rattle.sygus_answers.specs.Begun.{BeginsLine};
 ghost use Rattle.sygus_words.specs.Inputs.{AskDrill, AskJudging, AskNoJudging, AskSolving, HaveNoReading};
-ghost use Rattle.sygus_run.specs.Runs.{Answered, EndsWhole, FileIsRefused, GoesWell, IsCutOff, NamesKnown, WantsMemory};
-ghost use Rattle.sygus_run.specs.Runs.{fault_line, fault_status};
+ghost use Rattle.sygus_run.specs.Runs.{Answered, EndsWhole, FileIsRefused, GoesWell, IsCutOff, IsLineCutOff};
+ghost use Rattle.sygus_run.specs.Runs.{NamesKnown, WantsMemory, fault_line, fault_status};
 ghost use Rattle.sygus_drills.specs.Drills.{EndsDrill};
 ghost use Rattle.sygus_judged.specs.Ends.{EndsJudged};
 ghost use Rattle.sy_query_limits.specs.declared.Limits.{Limits};
@@ -99,8 +99,9 @@ pub fn run<S: Source, O: Sink, E: Sink>(
     ensures cut_off { AskSolving (map string_bytes words.now) → result.status ≡ 5 → IsCutOff
         (map string_bytes words.now) (S.held source.old) result.answers
         (O.written out.old) (O.written out.new) }
-    ensures cut_lines { AskSolving (map string_bytes words.now) → result.status ≡ 5 → (result.answers ≡ Answers.Idle)
-        ⊎ WritesMostFails (replies_of result.answers) (E.written err.old) (E.written err.new) }
+    ensures cut_lines { AskSolving (map string_bytes words.now) → result.status ≡ 5 → IsLineCutOff
+        (map string_bytes words.now) (S.held source.old) result.answers
+        (E.written err.old) (E.written err.new) }
 
     // 6: out of memory
     ensures memory { AskNoJudging (map string_bytes words.now) → result.status ≡ 6 → WantsMemory
@@ -128,6 +129,8 @@ fn without_input<E: Sink>(err: &mut E, fault: InputFault) -> Ended
     ensures written { result.status ≢ 5 → (result.status ≡ fault_status fault) × Appends (E.written err.old)
         (E.written err.new) (fault_line fault) }
     ensures write { result.status ≡ 5 → Rose (E.faults err.old) (E.faults err.new) }
+    ensures begun { result.status ≡ 5 → BeginsLine (λ line. line ≡ fault_line fault) (E.written err.old)
+        (E.written err.new) }
 {
     match fault {
         InputFault::Words => unanswered(err, b"refused: words\n", 3),

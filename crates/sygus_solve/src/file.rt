@@ -7,7 +7,9 @@ ghost use Rattle.sygus_replies.specs.Answered.{WritesMostFails};
 ghost use Rattle.sygus_replies.specs.Replies.{IsSettled, IsFail};
 ghost use Rattle.sygus_replies.specs.Texts.{answer_lines, memory_line};
 ghost use Rattle.sygus_answers.specs.Answers.{replies_of, AreNamedFor};
-ghost use Rattle.sygus_solve.specs.Files.{AnswersFile, RefusesFile, WritesAll, WritesCut, WritesTexts, Stops};
+ghost use Rattle.sygus_answers.specs.Begun.{BeginsLine};
+ghost use Rattle.sygus_solve.specs.Files.{AnswersFile, IsRefusalLine, RefusesFile, Stops};
+ghost use Rattle.sygus_solve.specs.Files.{WritesAll, WritesCut, WritesTexts};
 
 use crate::job::answer;
 use std::alloc::Global;
@@ -47,7 +49,8 @@ pub fn answer_file<O: Sink, E: Sink>(
     ensures cut_off { result.status ≡ 5 → Stops settings.now file.now result.answers (O.written out.old)
         (O.written out.new)
         (WritesCut settings.now.proofs result.answers (O.written out.old) (O.written out.new)) }
-    ensures cut_lines { result.status ≡ 5 → (result.answers ≡ Answers.Idle)
+    ensures cut_lines { result.status ≡ 5 → ((result.answers ≡ Answers.Idle)
+        × BeginsLine (IsRefusalLine file.now) (E.written err.old) (E.written err.new))
         ⊎ WritesMostFails (replies_of result.answers) (E.written err.old) (E.written err.new) }
 
     // 6: memory was wanted

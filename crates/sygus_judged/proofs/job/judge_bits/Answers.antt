@@ -10,14 +10,14 @@ use Rattle.sygus_judged.proofs.job.judge_bits.Goals as goal
 pub returns-in-Check-clause-ends : goal.returns-in-Check-clause-ends
 returns-in-Check-clause-ends g c =
     let judged = c.judge_all-judged.ensures in
-    ends_kept vector (verdict_found vector bits.budget) Bv _ _ _ _ _ _ _ _ _ _ _ refl c.in-Check.is judged.right refl tt refl judged.status judged.every judged.replied judged.good (λ small. ap g.E.Sink.written (judged.silent small)) judged.cut_off judged.memory judged.memory_line
+    ends_kept vector (verdict_found vector bits.budget) Bv _ _ _ _ _ _ _ _ _ _ _ refl c.in-Check.is judged.right refl tt refl judged.status judged.every judged.replied judged.good (λ small. ap g.E.Sink.written (judged.silent small)) judged.cut_off judged.memory judged.memory_line judged.cut_line
 
 pub returns-in-Recheck-clause-ends : goal.returns-in-Recheck-clause-ends
 returns-in-Recheck-clause-ends g c =
     let judged = c.judge_all-judged-in-Recheck.ensures in
-    ends_kept vector verdict_rechecked Bv _ _ _ _ _ _ _ _ _ _ _ refl c.in-Recheck.is judged.right refl tt refl judged.status judged.every judged.replied judged.good (λ small. ap g.E.Sink.written (judged.silent small)) judged.cut_off judged.memory judged.memory_line
+    ends_kept vector verdict_rechecked Bv _ _ _ _ _ _ _ _ _ _ _ refl c.in-Recheck.is judged.right refl tt refl judged.status judged.every judged.replied judged.good (λ small. ap g.E.Sink.written (judged.silent small)) judged.cut_off judged.memory judged.memory_line judged.cut_line
 
 pub returns-in-Clauses-clause-ends : goal.returns-in-Clauses-clause-ends
 returns-in-Clauses-clause-ends g c =
     let judged = c.judge_all-judged-in-Clauses.ensures in
-    ends_kept vector verdict_spelled Bv _ _ _ _ _ _ _ _ _ _ _ refl c.in-Clauses.is judged.right refl tt refl judged.status judged.every judged.replied judged.good (λ small. ap g.E.Sink.written (judged.silent small)) judged.cut_off judged.memory judged.memory_line
+    ends_kept vector verdict_spelled Bv _ _ _ _ _ _ _ _ _ _ _ refl c.in-Clauses.is judged.right refl tt refl judged.status judged.every judged.replied judged.good (λ small. ap g.E.Sink.written (judged.silent small)) judged.cut_off judged.memory judged.memory_line judged.cut_line

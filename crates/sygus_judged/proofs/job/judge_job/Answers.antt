@@ -33,7 +33,7 @@ returns-in-Ok-clause-ends g c =
 pub returns-in-Err-clause-ends : goal.returns-in-Err-clause-ends
 returns-in-Err-clause-ends g c =
     rw c.in-Ints.is (ends_told c.args.replies.now.settings.now c.args.replies.now.file.now c.args.replies.now.at (wish_over Whole Lia (c.in-Ints.problems, c.in-Ints.titles)) c.in-Err.end _ _ _ _ _ _ c.in-Err.ensures.read
-    c.refused_replies.ensures.status c.refused_replies.ensures.answers refl c.refused_replies.ensures.memory_line c.refused_replies.ensures.refused)
+    c.refused_replies.ensures.status c.refused_replies.ensures.answers refl c.refused_replies.ensures.memory_line c.refused_replies.ensures.refused c.refused_replies.ensures.cut_line)
 
 pub judge_bits-requires-clause-few : goal.judge_bits-requires-clause-few
 judge_bits-requires-clause-few g c =
@@ -57,4 +57,4 @@ returns-in-Ok-claims_of-clause-ends g c =
 pub returns-in-Err-claims_of-clause-ends : goal.returns-in-Err-claims_of-clause-ends
 returns-in-Err-claims_of-clause-ends g c =
     rw c.in-Bits.is (ends_told c.args.replies.now.settings.now c.args.replies.now.file.now c.args.replies.now.at (wish_over vector Bv (c.in-Bits.problems, c.in-Bits.titles)) c.in-Err-claims_of.end _ _ _ _ _ _ c.in-Err-claims_of.ensures.read
-    c.refused_replies-in-Err-claims_of.ensures.status c.refused_replies-in-Err-claims_of.ensures.answers refl c.refused_replies-in-Err-claims_of.ensures.memory_line c.refused_replies-in-Err-claims_of.ensures.refused)
+    c.refused_replies-in-Err-claims_of.ensures.status c.refused_replies-in-Err-claims_of.ensures.answers refl c.refused_replies-in-Err-claims_of.ensures.memory_line c.refused_replies-in-Err-claims_of.ensures.refused c.refused_replies-in-Err-claims_of.ensures.cut_line)

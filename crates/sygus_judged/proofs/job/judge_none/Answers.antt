@@ -20,4 +20,4 @@ returns-in-Err-clause-ends g c out =
     let same = none_read Whole (wants_proofs c.args.replies.now.settings.now.mode) c.args.replies.now.file.now c.args.replies.now.at _ c.new-problems.result c.new-problems.ensures in
     ends_told c.args.replies.now.settings.now c.args.replies.now.file.now c.args.replies.now.at (wish_in jobs.Idle) c.in-Err.end _ _ out out _ _
     (subst (λ (read : ReplyReading (List Statement)). RepliesEndAs c.in-Err.end read) same c.in-Err.ensures.read)
-    c.refused_replies.ensures.status c.refused_replies.ensures.answers refl c.refused_replies.ensures.memory_line c.refused_replies.ensures.refused
+    c.refused_replies.ensures.status c.refused_replies.ensures.answers refl c.refused_replies.ensures.memory_line c.refused_replies.ensures.refused c.refused_replies.ensures.cut_line

@@ -77,6 +77,11 @@ returns-in-Ok-File-clause-cut_off g c none is =
     let asked = rw c.in-Ok-File.field-0-is at c.in-Ok-File.ensures.ok in
     ends.cut_off _ _ c.in-Ok-File.settings _ asked _ _ _ (rw c.as_slice.ensures at c.answer_file.ensures.cut_off is)
 
+pub returns-in-Ok-File-clause-cut_lines : goal.returns-in-Ok-File-clause-cut_lines
+returns-in-Ok-File-clause-cut_lines g c none is =
+    let asked = rw c.in-Ok-File.field-0-is at c.in-Ok-File.ensures.ok in
+    ends.cut_lines _ _ c.in-Ok-File.settings _ asked _ _ _ (rw c.as_slice.ensures at c.answer_file.ensures.cut_lines is)
+
 pub returns-in-Ok-File-clause-memory : goal.returns-in-Ok-File-clause-memory
 returns-in-Ok-File-clause-memory g c none is =
     let asked = rw c.in-Ok-File.field-0-is at c.in-Ok-File.ensures.ok in
@@ -129,6 +134,7 @@ returns-in-Ok-Judge-clause-judged g c _ =
     (λ is. (c.judge_file.ensures.idle is, ap g.O.Sink.written (c.judge_file.ensures.silent is)))
     (λ is. (c.judge_file.ensures.reply_idle is, ap g.O.Sink.written (c.judge_file.ensures.reply_silent is)))
     (rw c.as_slice-in-Ok-Judge.ensures at c.judge_file.ensures.cut_off) (rw c.as_slice-in-Ok-Judge.ensures at c.judge_file.ensures.memory)
+    (rw c.as_slice-in-Ok-Judge.ensures at c.judge_file.ensures.cut_line)
 
 pub returns-in-Ok-Judge-clause-reply_refused : goal.returns-in-Ok-Judge-clause-reply_refused
 returns-in-Ok-Judge-clause-reply_refused g c _ =
@@ -183,11 +189,15 @@ returns-in-Err-clause-complete_words g c none well =
 
 pub returns-in-Err-clause-judged : goal.returns-in-Err-clause-judged
 returns-in-Err-clause-judged g c asked =
-    ends.ends_unjudged _ _ _ _ _ _ _ c.in-Err.fault _ _ _ c.without_input.ensures.status c.in-Err.ensures.fault c.without_input.ensures.written asked c.without_input.ensures.answers refl
+    ends.ends_unjudged _ _ _ _ _ _ _ c.in-Err.fault _ _ _ c.without_input.ensures.status c.in-Err.ensures.fault c.without_input.ensures.written c.without_input.ensures.begun asked c.without_input.ensures.answers refl
 
 pub returns-in-Err-clause-drill : goal.returns-in-Err-clause-drill
 returns-in-Err-clause-drill g c number limits asked =
-    ends.ends_no_drill _ _ _ _ _ _ _ c.in-Err.fault number limits _ _ _ c.in-Err.ensures.fault c.without_input.ensures.written asked c.without_input.ensures.answers refl
+    ends.ends_no_drill _ _ _ _ _ _ _ c.in-Err.fault number limits _ _ _ c.in-Err.ensures.fault c.without_input.ensures.written c.without_input.ensures.begun asked c.without_input.ensures.answers refl
+
+pub returns-in-Err-clause-cut_lines : goal.returns-in-Err-clause-cut_lines
+returns-in-Err-clause-cut_lines g c none is =
+    ends.cuts_without _ _ _ _ c.in-Err.fault _ _ _ c.in-Err.ensures.fault c.without_input.ensures.answers (c.without_input.ensures.begun is)
 
 pub returns-in-Err-clause-refused : goal.returns-in-Err-clause-refused
 returns-in-Err-clause-refused g c none is = ends.refuses_long _ _ _ _ _ _ _ c.in-Err.fault c.in-Err.ensures.fault c.without_input.ensures.written is

@@ -33,6 +33,12 @@ returns-in_default-clause-memory_line g c is =
     let not : c.out_of_memory-status.result ≡ 5 → ⊥ = λ h. cc in
     rw c.loop-place.invariant.quiet at (c.out_of_memory-status.ensures.written not).1
 
+pub returns-in_default-clause-cut_line : goal.returns-in_default-clause-cut_line
+returns-in_default-clause-cut_line g c is = rw c.loop-place.invariant.quiet at (c.out_of_memory-status.ensures.begun is)
+
+pub returns-in-Err-clause-cut_line : goal.returns-in-Err-clause-cut_line
+returns-in-Err-clause-cut_line g c _ = (0, rw c.loop-place.invariant.quiet (appended_nothing _))
+
 pub returns-in-Err-clause-right : goal.returns-in-Err-clause-right
 returns-in-Err-clause-right g c = right-next _ _ _ _ _ _ _ c.in-Ok.ensures.ok c.loop-place.invariant.right
 
