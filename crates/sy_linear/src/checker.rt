@@ -145,7 +145,8 @@ const MOST: u64 = 1 << 32;
 
 /// Whether the tree has fewer than 2^32 nodes.
 pub fn is_countable(t: &Tree) -> bool
-    ensures { result ≡ true → size (tree_shape_of t.now) < 2 ^ 32 }
+    ensures countable { result ≡ true → size (tree_shape_of t.now) < 2 ^ 32 }
+    ensures large { result ≡ false → 2 ^ 32 ≤ size (tree_shape_of t.now) }
 {
     count_nodes(t, MOST) < MOST
 }
