@@ -1,18 +1,7 @@
-use Rattle.std.proofs.Common.{ap, Err}
-use Rattle.sy_terms.specs.Denoted.{val_of, vals_of}
+use Rattle.sy_terms.specs.Denoted.{vals_of}
 use Rattle.sy_grammar_base.proofs.Problems.{problem_definitions}
-use Rattle.sy_loop_truth.proofs.Saying.{says, says_leaves}
+use Rattle.sy_loop_truth.proofs.Saying.{fits_with, says_true, says_false, says_leaves}
 use Rattle.sy_loop_truth.proofs.truth.truth_of.Goals as goal
 
-pub returns-in-Ok : goal.returns-in-Ok
-returns-in-Ok g c =
-    says g.T.Theory.owned g.T.Theory.denotes c.args.problem.now c.args.bodies.now (vals_of g.T.Theory.denotes c.args.values.now) c.args.term.now c.requires.bodies c.requires.values c.requires.term
-    (val_of g.T.Theory.denotes c.in-Ok.value) c.evaluate_with.new.trace c.decided.result c.in-Ok.ensures.ok (rw c.new-calls.ensures at c.in-Ok.ensures.traced) c.in-Ok.ensures.calls c.decided.ensures
-
-pub returns-in-Err-Range : goal.returns-in-Err-Range
-returns-in-Err-Range g c =
-    says_leaves g.T.Theory.owned g.T.Theory.denotes c.args.problem.now c.args.bodies.now (vals_of g.T.Theory.denotes c.args.values.now) c.args.term.now c.requires.bodies c.requires.values c.requires.term
-    (c.in-Err-Range.ensures.range (ap Err c.in-Err-Range.field-0-is))
-
-pub evaluate_with-requires-clause-definitions : goal.evaluate_with-requires-clause-definitions
-evaluate_with-requires-clause-definitions g c = problem_definitions g.T.Theory.owned g.T.Theory.numeric g.T.Theory.denotes c.args.problem.now c.requires.problem
+pub truth_with-requires-clause-definitions : goal.truth_with-requires-clause-definitions
+truth_with-requires-clause-definitions g c = problem_definitions g.T.Theory.owned g.T.Theory.numeric g.T.Theory.denotes c.args.problem.now c.requires.problem
