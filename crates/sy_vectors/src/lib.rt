@@ -31,6 +31,8 @@ mod integers;
 #[cfg(test)]
 mod joins;
 #[cfg(test)]
+mod kept;
+#[cfg(test)]
 mod lowerings;
 #[cfg(test)]
 mod measures;
