@@ -65,7 +65,8 @@ fn parts_of(alloc: Global, tableau: &Tableau, form: &Form) -> Result<Vec<Part>, 
     requires differ { RowsDiffer (tableau_state_of tableau.now) }
     requires form { IsForm tableau.now.vars form.now }
     requires fits { FormFits form.now }
-    ensures { IfOk result (λ parts. AreParts (tableau_state_of tableau.now) form.now (length form.now.coefs) parts.items) }
+    ensures { IfOk result (λ parts.
+        AreParts (tableau_state_of tableau.now) form.now (length form.now.coefs) parts.items) }
 {
     let mut parts = Vec::new(alloc);
     for (variable, number) in form.coefs.as_slice() {
@@ -84,7 +85,8 @@ fn summed_column(parts: &[Part], tableau: &Tableau, column: usize) -> Result<Fra
     requires shaped { IsShaped (tableau_state_of tableau.now) }
     requires column_below { column < length (tableau_state_of tableau.now).columns }
     requires parts { ArePartsIn (tableau_state_of tableau.now) parts.now }
-    ensures ok { IfOk result (λ sum. IsSummed parts.now (λ i. coef (tableau_state_of tableau.now) i column) (length parts.now) sum) }
+    ensures ok { IfOk result (λ sum.
+        IsSummed parts.now (λ i. coef (tableau_state_of tableau.now) i column) (length parts.now) sum) }
     ensures misfit { IfErr result (λ m. SummedMisfit parts.now (λ i. coef (tableau_state_of tableau.now) i column) m) }
 {
     let mut sum = zero();
@@ -100,7 +102,8 @@ fn summed_column(parts: &[Part], tableau: &Tableau, column: usize) -> Result<Fra
 fn summed_values(parts: &[Part], tableau: &Tableau) -> Result<Frac, Misfit>
     requires shaped { IsShaped (tableau_state_of tableau.now) }
     requires parts { ArePartsIn (tableau_state_of tableau.now) parts.now }
-    ensures ok { IfOk result (λ sum. IsSummed parts.now (row_value (tableau_state_of tableau.now)) (length parts.now) sum) }
+    ensures ok { IfOk result (λ sum.
+        IsSummed parts.now (row_value (tableau_state_of tableau.now)) (length parts.now) sum) }
     ensures misfit { IfErr result (λ m. SummedMisfit parts.now (row_value (tableau_state_of tableau.now)) m) }
 {
     let mut sum = zero();
@@ -178,7 +181,8 @@ pub(crate) fn join(alloc: Global, tableau: &Tableau, form: &Form) -> Result<Join
     requires differ { RowsDiffer (tableau_state_of tableau.now) }
     requires form { IsForm tableau.now.vars form.now }
     requires fits { FormFits form.now }
-    ensures ok { IfOk result (λ new. IsJoinedRow (tableau_state_of tableau.now) form.now new.row × IsJoinedValue (tableau_state_of tableau.now) form.now new.entry) }
+    ensures ok { IfOk result (λ new. IsJoinedRow (tableau_state_of tableau.now) form.now new.row
+        × IsJoinedValue (tableau_state_of tableau.now) form.now new.entry) }
     ensures misfit { IfUnfit result (λ m. JoiningMisfit (tableau_state_of tableau.now) form.now m) }
 {
     let parts = parts_of(alloc, tableau, form)?;

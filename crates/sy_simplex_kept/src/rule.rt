@@ -40,7 +40,8 @@ fn can_raise(coefficient: &Frac, free: bool) -> bool
 fn entering_column(columns: &[u32], coefs: &[Frac], vars: u32, popped: &[bool]) -> Option<usize>
     requires width { length columns.now ≡ length coefs.now }
     requires below { (j : ℕ) → j < length columns.now → get_or columns.now j 0 < vars + length popped.now }
-    ensures { MatchOption result (NoneRaisesBy (free_of vars popped.now) columns.now coefs.now (length columns.now)) (λ e. LeastRaisingBy (free_of vars popped.now) columns.now coefs.now (length columns.now) e) }
+    ensures { MatchOption result (NoneRaisesBy (free_of vars popped.now) columns.now coefs.now (length columns.now))
+        (λ e. LeastRaisingBy (free_of vars popped.now) columns.now coefs.now (length columns.now) e) }
 {
     let mut best: Option<usize> = None;
     for at in 0..columns.len() {
@@ -77,7 +78,9 @@ fn is_clear(tableau: &Tableau, popped: &[bool], row: usize) -> bool
 fn first_unclear(tableau: &Tableau, popped: &[bool]) -> Option<usize>
     requires shaped { IsShaped (tableau_state_of tableau.now) }
     requires popped { length (tableau_state_of tableau.now).bounds ≡ length popped.now }
-    ensures { MatchOption result (BoundsAreMetBy (free_of tableau.now.vars popped.now) (tableau_state_of tableau.now)) (λ r. FirstUnclearBy (free_of tableau.now.vars popped.now) (tableau_state_of tableau.now) (length (tableau_state_of tableau.now).basics) r) }
+    ensures { MatchOption result (BoundsAreMetBy (free_of tableau.now.vars popped.now) (tableau_state_of tableau.now))
+        (λ r. FirstUnclearBy (free_of tableau.now.vars popped.now) (tableau_state_of tableau.now)
+        (length (tableau_state_of tableau.now).basics) r) }
 {
     let mut best: Option<usize> = None;
     for at in 0..tableau.basics.len() {
@@ -99,8 +102,10 @@ fn first_unclear(tableau: &Tableau, popped: &[bool]) -> Option<usize>
 pub(crate) fn choose(tableau: &Tableau, popped: &[bool]) -> Result<Choice, Misfit>
     requires shaped { IsShaped (tableau_state_of tableau.now) }
     requires popped { length (tableau_state_of tableau.now).bounds ≡ length popped.now }
-    ensures ok { IfOk result (λ choice. IsChoiceBy (free_of tableau.now.vars popped.now) (tableau_state_of tableau.now) choice) }
-    ensures misfit { IfErr result (λ m. ChoiceMisfit (free_of tableau.now.vars popped.now) (tableau_state_of tableau.now) m) }
+    ensures ok { IfOk result (λ choice.
+        IsChoiceBy (free_of tableau.now.vars popped.now) (tableau_state_of tableau.now) choice) }
+    ensures misfit { IfErr result (λ m.
+        ChoiceMisfit (free_of tableau.now.vars popped.now) (tableau_state_of tableau.now) m) }
 {
     let Some(row) = first_unclear(tableau, popped) else {
         return Ok(Choice::Met);

@@ -1,4 +1,4 @@
-// One step: what it changes is made apart, and then put in, so that a step that isn't made leaves the tableau as it was.
+// One step: what it changes is made apart and then put in, so that a step that isn't made leaves the tableau as it was.
 ghost use Rattle.std.specs.Prelude.{◌≡◌, ◌≢◌, ◌<◌, ◌≤◌, ℕ, pos, [], length, get_or, IfOk, IfErr};
 ghost use Rattle.sy_simplex.specs.Operations.{IsShift, IsPlusProduct, fraction_opposite as opposite_of};
 ghost use Rattle.sy_simplex.specs.Rows.{at as coefficient_at, beside, AreLowest, IsSolvedAt, IsSolvedRow, IsPutRow};
@@ -111,7 +111,8 @@ fn changed_line(
 ) -> Result<Line, Halt>
     requires same_length { length coefs.now ≡ length solved.now }
     requires in_bounds { column < length coefs.now }
-    ensures ok { IfOk result (λ line. IsPutRow coefs.now solved.now column line.row × IsPlusProduct value.now (coefficient_at coefs.now column) raise.now line.value) }
+    ensures ok { IfOk result (λ line. IsPutRow coefs.now solved.now column line.row
+        × IsPlusProduct value.now (coefficient_at coefs.now column) raise.now line.value) }
     ensures misfit { IfUnfit result (λ m. LineMisfit coefs.now value.now solved.now column raise.now m) }
 {
     let value = plus_product(value, &coefs[column], raise)?;
@@ -133,7 +134,8 @@ fn other_line(
     requires column_below { column < length (tableau_state_of tableau.now).columns }
     requires width { length solved.now ≡ length (tableau_state_of tableau.now).columns }
     ensures ok { IfOk result (λ line. IsOther (tableau_state_of tableau.now) solved.now column raise.now at line) }
-    ensures misfit { IfUnfit result (λ m. LineMisfit (coefs_of (tableau_state_of tableau.now) at) (row_value (tableau_state_of tableau.now) at) solved.now column raise.now m) }
+    ensures misfit { IfUnfit result (λ m. LineMisfit (coefs_of (tableau_state_of tableau.now) at)
+        (row_value (tableau_state_of tableau.now) at) solved.now column raise.now m) }
 {
     let coefs = tableau.rows[at].as_slice();
     if coefs[column].num() == 0 {
@@ -162,8 +164,10 @@ fn other_lines(
     requires shaped { IsShaped (tableau_state_of tableau.now) }
     requires column_below { column < length (tableau_state_of tableau.now).columns }
     requires width { length solved.now ≡ length (tableau_state_of tableau.now).columns }
-    ensures ok { IfOk result (λ lines. AreOthers (tableau_state_of tableau.now) row column solved.now raise.now (length (tableau_state_of tableau.now).rows) lines.items) }
-    ensures misfit { IfUnfit result (λ m. OtherMisfit (tableau_state_of tableau.now) row column solved.now raise.now m) }
+    ensures ok { IfOk result (λ lines. AreOthers (tableau_state_of tableau.now) row column solved.now raise.now
+        (length (tableau_state_of tableau.now).rows) lines.items) }
+    ensures misfit { IfUnfit result (λ m.
+        OtherMisfit (tableau_state_of tableau.now) row column solved.now raise.now m) }
 {
     let mut others = Vec::new(alloc);
     for at in 0..tableau.rows.len() {
