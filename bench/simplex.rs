@@ -1,5 +1,4 @@
 // The same method in plain Rust: dense rows over fractions of 128 bits in lowest terms, with Bland's rule, on the same chain.
-// With the second word `kept` the chain is decided after each of its forms, by a tableau that is kept.
 use std::env;
 
 #[derive(Clone, Copy)]
@@ -119,72 +118,6 @@ impl Tableau {
     }
 }
 
-fn empty(count: usize) -> Tableau {
-    Tableau {
-        vars: count,
-        columns: (0..count).collect(),
-        basics: Vec::new(),
-        rows: Vec::new(),
-        values: Vec::new(),
-        bounds: Vec::new(),
-    }
-}
-
-impl Tableau {
-    fn value(&self, variable: usize) -> Frac {
-        match self.basics.iter().position(|&basic| basic == variable) {
-            Some(row) => self.values[row],
-            None => self.rest(variable),
-        }
-    }
-
-    /// Joins the form that the variable is at least 1 above the one before: its row over the columns' variables.
-    fn join(&mut self, variable: usize) -> Option<()> {
-        let mut row = vec![ZERO; self.vars];
-        let mut value = ZERO;
-        for (named, factor) in [(variable.checked_sub(1), -1), (Some(variable), 1)] {
-            let Some(named) = named else { continue };
-            let factor = Frac { num: factor, den: 1 };
-            value = value.add(factor.mul(self.value(named))?)?;
-            if let Some(basic) = self.basics.iter().position(|&basic| basic == named) {
-                for j in 0..self.vars {
-                    if self.rows[basic][j].num != 0 {
-                        row[j] = row[j].add(factor.mul(self.rows[basic][j])?)?;
-                    }
-                }
-            } else if let Some(column) = self.columns.iter().position(|&column| column == named) {
-                row[column] = row[column].add(factor)?;
-            }
-        }
-        self.basics.push(self.vars + self.bounds.len());
-        self.rows.push(row);
-        self.values.push(value);
-        self.bounds.push(Frac { num: 1, den: 1 });
-        Some(())
-    }
-
-    fn settle(&mut self) -> Option<()> {
-        while let Some(row) = self.leaving()? {
-            let column = self.entering(row)?;
-            self.exchange(row, column)?;
-        }
-        Some(())
-    }
-}
-
-/// Decides the chain after each of its forms, and takes the whole point each time.
-fn kept(count: usize) -> Option<i128> {
-    let mut tableau = empty(count);
-    let mut last = ZERO;
-    for variable in 0..count {
-        tableau.join(variable)?;
-        tableau.settle()?;
-        let point: Vec<Frac> = (0..count).map(|v| tableau.value(v)).collect();
-        last = point[variable];
-    }
-    Some(last.num)
-}
-
 fn chain(count: usize) -> Tableau {
     let mut rows = vec![vec![ZERO; count]; count];
     for i in 0..count {
@@ -204,14 +137,18 @@ fn chain(count: usize) -> Tableau {
 }
 
 fn run(mut tableau: Tableau) -> Option<i128> {
-    tableau.settle()?;
-    Some(tableau.value(tableau.vars - 1).num)
+    while let Some(row) = tableau.leaving()? {
+        let column = tableau.entering(row)?;
+        tableau.exchange(row, column)?;
+    }
+    let last = tableau.vars - 1;
+    let value = tableau.basics.iter().position(|&v| v == last).map_or(ZERO, |row| tableau.values[row]);
+    Some(value.num)
 }
 
 fn main() {
     let count = env::args().nth(1).and_then(|word| word.parse().ok()).unwrap_or(300);
-    let is_kept = env::args().nth(2).is_some_and(|word| word == "kept");
-    match if is_kept { kept(count) } else { run(chain(count)) } {
+    match run(chain(count)) {
         Some(value) => println!("{value}"),
         None => println!("none"),
     }

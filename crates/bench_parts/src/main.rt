@@ -7,7 +7,6 @@ mod cdcl;
 mod derive;
 mod dimacs;
 mod evaluate;
-mod kept;
 mod lists;
 mod lower;
 mod random;
@@ -28,7 +27,6 @@ fn measure(rt: &HostRuntime, words: &[String]) -> u8 {
         "cdcl" => cdcl::run(rt, words),
         "derive" => derive::run(rt, words),
         "evaluate" => evaluate::run(rt, words),
-        "kept" => kept::run(rt, words),
         "lower" => lower::run(rt, words),
         "scan" => scan::run(rt, words),
         "simplex" => simplex::run(rt, words),

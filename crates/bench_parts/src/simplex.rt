@@ -8,7 +8,7 @@ use sy_seq::{Seq, Want};
 use sy_simplex::{Feasible, are_forms, feasible};
 
 /// That the variable is at least 1 above the one before it, or at least 1 where it is the first.
-pub(crate) fn link(alloc: Global, variable: u32) -> Result<Form, Want> {
+fn link(alloc: Global, variable: u32) -> Result<Form, Want> {
     if variable == 0 {
         form(alloc, &[(0, 1)], -1)
     } else {

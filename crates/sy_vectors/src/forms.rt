@@ -63,12 +63,7 @@ pub fn forms(rt: &impl Abort, alloc: Global, text: &str) -> Seq<Form> {
 }
 
 /// A word and fractions.
-pub fn listed(
-    rt: &impl Abort,
-    alloc: Global,
-    word: &str,
-    fractions: &[Frac],
-) -> Result<String, Want> {
+fn listed(rt: &impl Abort, alloc: Global, word: &str, fractions: &[Frac]) -> Result<String, Want> {
     let mut text = String::from_str(alloc, word).expect(rt, "memory");
     for fraction in fractions {
         let (num, den) = (fraction.num(), fraction.den());

@@ -31,8 +31,6 @@ mod integers;
 #[cfg(test)]
 mod joins;
 #[cfg(test)]
-mod kept;
-#[cfg(test)]
 mod lowerings;
 #[cfg(test)]
 mod measures;

@@ -1,7 +1,7 @@
 // The tables, row by row.
 use crate::{
     answers, clauses, conditions, cuts, defaults, evaluation, facts, forms, fractions, gates,
-    grammars, integer_answers, integers, joins, kept, lowerings, measures, operators, sorts, trees,
+    grammars, integer_answers, integers, joins, lowerings, measures, operators, sorts, trees,
     words,
 };
 use std::alloc::Global;
@@ -10,7 +10,7 @@ use sy_meaning_integers::IntTheory;
 use sy_meaning_words::BvTheory;
 
 /// All tables with their names.
-const TABLES: [(&str, &str); 25] = [
+const TABLES: [(&str, &str); 24] = [
     ("gates", gates::ROWS),
     ("measures of integers", measures::INTEGERS),
     ("measures of vectors", measures::VECTORS),
@@ -28,7 +28,6 @@ const TABLES: [(&str, &str); 25] = [
     ("fractions", fractions::ROWS),
     ("forms", forms::ROWS),
     ("systems", forms::SYSTEMS),
-    ("kept systems", kept::ROWS),
     ("facts", facts::ROWS),
     ("trees", trees::ROWS),
     ("cuts", cuts::ROWS),
@@ -91,7 +90,6 @@ fn is_told(rt: &impl Abort, alloc: Global, table: &str, row: &str) -> bool {
         "fractions" => fractions::told(alloc, start),
         "forms" => forms::told(rt, alloc, start),
         "systems" => forms::answer(rt, alloc, start),
-        "kept systems" => kept::told(rt, alloc, start),
         "facts" => facts::told(rt, alloc, start),
         "trees" => trees::told(rt, alloc, start),
         _ => return cuts::is_right(rt, alloc, start, wanted),
