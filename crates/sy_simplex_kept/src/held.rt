@@ -1,5 +1,6 @@
 // The tableau of the forms that were joined, and how it goes on.
-ghost use Rattle.std.specs.Prelude.{◌≡◌, ◌<◌, ◌≤◌, ◌+◌, ◌^◌, ◌↔◌, ◌++◌, ◌∷◌, ℕ, List, [], length, get_or, IsTrue, false, neg_ℤ, MatchOption, IfOk, OnOk, OnErr, None};
+ghost use Rattle.std.specs.Prelude.{◌≡◌, ◌<◌, ◌≤◌, ◌+◌, ◌^◌, ◌↔◌, ◌++◌, ◌∷◌, ℕ, List, [], length, get_or, IsTrue};
+ghost use Rattle.std.specs.Prelude.{false, neg_ℤ, MatchOption, IfOk, OnOk, OnErr, None};
 ghost use Rattle.sy_frac.specs.Fraction.{Fraction};
 ghost use Rattle.sy_simplex.specs.Operations.{fraction_of_whole};
 ghost use Rattle.sy_simplex.specs.Problems.{form as form_at};
@@ -99,7 +100,8 @@ pub(crate) fn or_begin(alloc: Global, vars: u32, held: Option<Held>) -> Result<H
 
 /// Lets the variable of the form of place `left` be free, where it is joined: the forms of the places before are left.
 pub(crate) fn set_free(held: &mut Held, left: usize)
-    requires numbers { (i : ℕ) → i < length held.old.joined.items → get_or held.old.joined.items i 0 < length held.old.popped.items }
+    requires numbers { (i : ℕ) → i < length held.old.joined.items →
+        get_or held.old.joined.items i 0 < length held.old.popped.items }
     ensures { (forms front : List Form) → length front ≡ left →
         state_of front held.new ≡ without_last (state_of forms held.old) front }
 {
@@ -124,7 +126,8 @@ fn bound_of(form: &Form) -> Frac
 /// Appends the row of a new variable. Where memory is refused, the tableau stays.
 fn append(tableau: &mut Tableau, row: Row, value: Frac, bound: Frac) -> Result<(), Want>
     requires few { tableau.old.vars + length tableau.old.bounds.items < 2 ^ 32 }
-    ensures ok { OnOk result (IsAppended (tableau_state_of tableau.old) row value bound (tableau_state_of tableau.new)) }
+    ensures ok { OnOk result
+        (IsAppended (tableau_state_of tableau.old) row value bound (tableau_state_of tableau.new)) }
     ensures stays { OnErr result (tableau_state_of tableau.new ≡ tableau_state_of tableau.old) }
 {
     let variable = tableau.vars + tableau.bounds.len() as u32;
@@ -170,7 +173,8 @@ fn join_next(alloc: Global, forms: &[Form], held: &mut Held) -> Result<(), Halt>
     requires fits { FormFits (form_at forms.now (length held.old.joined.items)) }
     ensures ok { OnOk result (JoinsNext (state_of forms.now held.old) (state_of forms.now held.new)) }
     ensures stays { OnErr result (state_of forms.now held.new ≡ state_of forms.now held.old) }
-    ensures misfit { IfUnfit result (λ m. JoiningMisfit (tableau_state_of held.old.tableau) (form_at forms.now (length held.old.joined.items)) m) }
+    ensures misfit { IfUnfit result (λ m. JoiningMisfit (tableau_state_of held.old.tableau)
+        (form_at forms.now (length held.old.joined.items)) m) }
 {
     if held.tableau.vars >= 1 << 31 || held.popped.len() >= 1 << 31 {
         return Err(Halt::Want);
@@ -271,7 +275,8 @@ pub(crate) fn go_on(
     requires fits { (i : ℕ) → i < length forms.now → FormFits (form_at forms.now i) }
     ensures kept { IsKept (state_of forms.now held.new) }
     ensures vars { held.new.tableau.vars ≡ held.old.tableau.vars }
-    ensures told { IfOk result (λ answer. Tells (state_of forms.now held.old) (state_of forms.now held.new) pivots answer) }
+    ensures told { IfOk result (λ answer.
+        Tells (state_of forms.now held.old) (state_of forms.now held.new) pivots answer) }
     ensures want { OnErr result (GotTo (state_of forms.now held.old) (state_of forms.now held.new) pivots) }
 {
     match join_all(alloc, forms, held) {

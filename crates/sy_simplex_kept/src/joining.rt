@@ -6,7 +6,9 @@ ghost use Rattle.sy_simplex.specs.Problems.{coefficient, IsForm};
 ghost use Rattle.sy_simplex.specs.Runs.{FormFits};
 ghost use Rattle.sy_simplex.specs.States.{IsShaped, coef, row_value};
 ghost use Rattle.sy_simplex.specs.Stated.{tableau_state_of};
-ghost use Rattle.sy_simplex_kept.specs.Joinings.{RowsDiffer, AreParts, ArePartsIn, IsSummed, SummedMisfit, IsJoinedAt, JoinedAtMisfit, IsJoinedRow, IsJoinedValue, JoiningMisfit};
+ghost use Rattle.sy_simplex_kept.specs.Joinings.{RowsDiffer, AreParts, ArePartsIn, IsSummed, SummedMisfit};
+ghost use Rattle.sy_simplex_kept.specs.Joinings.{IsJoinedAt, JoinedAtMisfit, IsJoinedRow, IsJoinedValue};
+ghost use Rattle.sy_simplex_kept.specs.Joinings.{JoiningMisfit};
 ghost use Rattle.sy_simplex_kept.specs.Misfits.{IfUnfit};
 
 use crate::misfit::{Halt, Misfit, add, plus_product};

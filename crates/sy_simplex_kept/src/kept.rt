@@ -100,7 +100,8 @@ impl KeptTableau {
 
     /// The form of a place; `None` exactly where there is none.
     pub fn form(&self, place: usize) -> Option<&Form>
-        ensures { MatchOption result (length self.now.forms ≤ place) (λ form. slice_get self.now.forms place ≡ Some form.now) }
+        ensures { MatchOption result (length self.now.forms ≤ place)
+            (λ form. slice_get self.now.forms place ≡ Some form.now) }
     {
         self.forms.get(place)
     }

@@ -1,8 +1,10 @@
 // The choice of a step by Bland's rule, where some of the forms' variables are free.
-ghost use Rattle.std.specs.Prelude.{◌≡◌, ◌<◌, ◌≤◌, ◌+◌, ◌-◌, ◌↔◌, ◌⊎◌, ◌<ℤ◌, IsTrue, pos, length, MatchOption, IfOk, IfErr, false, ℕ, get_or};
+ghost use Rattle.std.specs.Prelude.{◌≡◌, ◌<◌, ◌≤◌, ◌+◌, ◌-◌, ◌↔◌, ◌⊎◌, ◌<ℤ◌, IsTrue, pos, length, MatchOption, IfOk};
+ghost use Rattle.std.specs.Prelude.{IfErr, false, ℕ, get_or};
 ghost use Rattle.sy_simplex.specs.States.{IsShaped, IsVariable, IsAtLeast, row as coefs_of};
 ghost use Rattle.sy_simplex.specs.Stated.{tableau_state_of};
-ghost use Rattle.sy_simplex_kept.specs.Choosing.{is_free as free_of, IsClearBy, BoundsAreMetBy, FirstUnclearBy, NoneRaisesBy, LeastRaisingBy, IsChoiceBy, ChoiceMisfit};
+ghost use Rattle.sy_simplex_kept.specs.Choosing.{is_free as free_of, IsClearBy, BoundsAreMetBy, FirstUnclearBy};
+ghost use Rattle.sy_simplex_kept.specs.Choosing.{NoneRaisesBy, LeastRaisingBy, IsChoiceBy, ChoiceMisfit};
 
 use crate::misfit::{FracOp, Misfit};
 use std::cmp::Ordering;

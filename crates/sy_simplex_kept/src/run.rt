@@ -53,9 +53,11 @@ pub(crate) fn run(
     requires shaped { IsShaped (tableau_state_of tableau.old) }
     requires popped { length (tableau_state_of tableau.old).bounds ≡ length popped.now }
     ensures ended { IfOk result (λ end.
-        IsEnd (free_of tableau.old.vars popped.now) (tableau_state_of tableau.old) (tableau_state_of tableau.new) pivots end) }
+        IsEnd (free_of tableau.old.vars popped.now) (tableau_state_of tableau.old) (tableau_state_of tableau.new)
+        pivots end) }
     ensures want { OnErr result
-        (HasGone (free_of tableau.old.vars popped.now) (tableau_state_of tableau.old) (tableau_state_of tableau.new) pivots) }
+        (HasGone (free_of tableau.old.vars popped.now) (tableau_state_of tableau.old) (tableau_state_of tableau.new)
+        pivots) }
 {
     let mut steps = Seq::new(alloc);
     loop {

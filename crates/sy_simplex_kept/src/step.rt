@@ -4,7 +4,8 @@ ghost use Rattle.sy_simplex.specs.Operations.{IsShift, IsPlusProduct, fraction_o
 ghost use Rattle.sy_simplex.specs.Rows.{at as coefficient_at, beside, AreLowest, IsSolvedAt, IsSolvedRow, IsPutRow};
 ghost use Rattle.sy_simplex.specs.States.{IsShaped, IsPivot, basic, row as coefs_of, coef, row_value, bound};
 ghost use Rattle.sy_simplex.specs.Stated.{tableau_state_of};
-ghost use Rattle.sy_simplex_kept.specs.Changes.{IsOther, AreOthers, IsChange, ArePutIn, SolvedAtMisfit, SolvedMisfit, PutMisfit, LineMisfit, OtherMisfit, StepMisfit};
+ghost use Rattle.sy_simplex_kept.specs.Changes.{IsOther, AreOthers, IsChange, ArePutIn, SolvedAtMisfit, SolvedMisfit};
+ghost use Rattle.sy_simplex_kept.specs.Changes.{PutMisfit, LineMisfit, OtherMisfit, StepMisfit};
 ghost use Rattle.sy_simplex_kept.specs.Misfits.{ShiftMisfit, IfUnfit};
 
 use crate::misfit::{Halt, Misfit, add, div, plus_product, sub};
