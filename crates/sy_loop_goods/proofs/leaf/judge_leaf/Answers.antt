@@ -1,6 +1,6 @@
-use Rattle.std.proofs.Common.{[], ◌∷◌, inl, inr, refl, subst, sym}
+use Rattle.std.proofs.Common.{[], ◌∷◌, inl, inr, get_or, subst, sym}
 use Rattle.std.proofs.lemmas.List.Elements.{All-contains}
-use Rattle.std.proofs.lemmas.Option.{slice_get_read}
+use Rattle.std.proofs.lemmas.Option.{slice_get-get_or}
 use Rattle.std.proofs.lemmas.Result.{IfOk-from_err}
 use Rattle.sy_grammar_base.specs.Questions.{question_of}
 use Rattle.sy_grammar_base.specs.Solving.{AreMembers}
@@ -13,39 +13,39 @@ use Rattle.sy_loop_goods.proofs.leaf.judge_leaf.Goals as goal
 
 pub recall-requires-clause-row : goal.recall-requires-clause-row
 recall-requires-clause-row g c =
-    let kept = c.index-task-leaf.result in
-    c.requires.task.leaves.rows c.args.leaf (entry_of g.T.Theory.denotes kept.now) (chosen_at g.T.Theory.denotes c.args.task.now.leaves.now c.args.leaf kept (slice_get_read _ _ _ _ refl c.requires.leaf c.index-task-leaf.is))
+    let kept = get_or c.args.task.now.leaves.now c.args.leaf c.index-task-leaf.result in
+    c.requires.task.leaves.rows c.args.leaf (entry_of g.T.Theory.denotes kept.now) (chosen_at g.T.Theory.denotes c.args.task.now.leaves.now c.args.leaf kept (slice_get-get_or c.args.task.now.leaves.now c.args.leaf c.index-task-leaf.result c.requires.leaf))
 
 pub judge-requires-clause-row : goal.judge-requires-clause-row
 judge-requires-clause-row g c =
-    let kept = c.index-task-leaf.result in
-    c.requires.task.leaves.rows c.args.leaf (entry_of g.T.Theory.denotes kept.now) (chosen_at g.T.Theory.denotes c.args.task.now.leaves.now c.args.leaf kept (slice_get_read _ _ _ _ refl c.requires.leaf c.index-task-leaf.is))
+    let kept = get_or c.args.task.now.leaves.now c.args.leaf c.index-task-leaf.result in
+    c.requires.task.leaves.rows c.args.leaf (entry_of g.T.Theory.denotes kept.now) (chosen_at g.T.Theory.denotes c.args.task.now.leaves.now c.args.leaf kept (slice_get-get_or c.args.task.now.leaves.now c.args.leaf c.index-task-leaf.result c.requires.leaf))
 
 pub judge-requires-clause-bodies : goal.judge-requires-clause-bodies
 judge-requires-clause-bodies g c =
     let question = question_of g.T.Theory.denotes c.args.task.now.problem.now in
     let leaves = chosen_of g.T.Theory.denotes c.args.task.now.leaves.now in
-    let kept = c.index-task-leaf.result in
+    let kept = get_or c.args.task.now.leaves.now c.args.leaf c.index-task-leaf.result in
     let entry = entry_of g.T.Theory.denotes kept.now in
-    let at = chosen_at g.T.Theory.denotes c.args.task.now.leaves.now c.args.leaf kept (slice_get_read _ _ _ _ refl c.requires.leaf c.index-task-leaf.is) in
+    let at = chosen_at g.T.Theory.denotes c.args.task.now.leaves.now c.args.leaf kept (slice_get-get_or c.args.task.now.leaves.now c.args.leaf c.index-task-leaf.result c.requires.leaf) in
     let member = All-contains (λ (e : Entry). AreMembers question.goals (e.term ∷ [])) leaves entry c.requires.task.leaves.members (has_place leaves c.args.leaf entry at) in
     bodies_fit g.T.Theory.owned g.T.Theory.numeric g.T.Theory.denotes c.args.task.now.problem.now c.in_ok-bodies.bodies c.requires.task.problem g.met.T.Theory.negation (subst (AreMembers question.goals) (sym c.in_ok-bodies.ensures) member)
 
 pub returns-in-Some-recall-clause-judged : goal.returns-in-Some-recall-clause-judged
 returns-in-Some-recall-clause-judged g c =
-    let kept = c.index-task-leaf.result in
+    let kept = get_or c.args.task.now.leaves.now c.args.leaf c.index-task-leaf.result in
     inr (record {
       entry = entry_of g.T.Theory.denotes kept.now;
-      at = chosen_at g.T.Theory.denotes c.args.task.now.leaves.now c.args.leaf kept (slice_get_read _ _ _ _ refl c.requires.leaf c.index-task-leaf.is);
+      at = chosen_at g.T.Theory.denotes c.args.task.now.leaves.now c.args.leaf kept (slice_get-get_or c.args.task.now.leaves.now c.args.leaf c.index-task-leaf.result c.requires.leaf);
       judges = rw c.judged_by-in-Some-recall.ensures c.in-Some-recall.ensures;
     })
 
 pub returns-clause-judged : goal.returns-clause-judged
 returns-clause-judged g c =
-    let kept = c.index-task-leaf.result in
+    let kept = get_or c.args.task.now.leaves.now c.args.leaf c.index-task-leaf.result in
     inr (record {
       entry = entry_of g.T.Theory.denotes kept.now;
-      at = chosen_at g.T.Theory.denotes c.args.task.now.leaves.now c.args.leaf kept (slice_get_read _ _ _ _ refl c.requires.leaf c.index-task-leaf.is);
+      at = chosen_at g.T.Theory.denotes c.args.task.now.leaves.now c.args.leaf kept (slice_get-get_or c.args.task.now.leaves.now c.args.leaf c.index-task-leaf.result c.requires.leaf);
       judges = rw c.in_ok-bodies.ensures at c.in_ok-judged.ensures.judged;
     })
 
