@@ -98,7 +98,7 @@ fn breadth_of<T: Theory>(task: &Task<T>, is_last: bool) -> Option<Breadth> {
     if !is_last {
         return Some(Breadth::Few);
     }
-    if are_vectors && task.problem.vars.len() == 0 && task.effort.banks > 1 {
+    if are_vectors && task.problem.vars.len() == 0 && task.effort.below {
         return Some(Breadth::Deep);
     }
     Some(Breadth::Many)
