@@ -137,8 +137,9 @@ fn found_after<T: Theory, D: Decide<T>>(
 }
 
 /// The first solution that searches up to larger sizes find, with few kept terms; with all of them only where these are
-/// few and the search ended after its greatest size, since else its bank was full before. Where it ended by a full bank,
-/// the one with the fewest terms would repeat the early search, so it is left out; after other limits none is made.
+/// few and the search ended after its greatest size, since else its bank was full before. Where it ended by a full
+/// bank, the one with the fewest terms would repeat the early search, so it is left out; after other limits none is
+/// made.
 fn found_wider<T: Theory, D: Decide<T>>(
     alloc: Global,
     problem: &Problem<T>,
