@@ -59,6 +59,9 @@ fn solve_onwards<T: Theory, D: Decide<T>>(
     if let Some(found) = solve_scanned(task, decide, bank, assignments, aside)? {
         return Ok(Some(found));
     }
+    if aside.is_spent() {
+        return Ok(None);
+    }
     solve_again(task, decide, assignments, aside)
 }
 

@@ -52,7 +52,7 @@ impl<T: Theory> Aside<T> {
     }
 
     /// Whether no more may be left undecided.
-    pub(crate) fn is_spent(&self) -> bool {
+    pub fn is_spent(&self) -> bool {
         self.left == 0
     }
 

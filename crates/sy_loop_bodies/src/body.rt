@@ -26,6 +26,8 @@ pub struct Effort {
     pub undecided: u32,
     /// How many further banks are built at most.
     pub banks: u32,
+    /// Whether bodies below known operations are looked for over these.
+    pub below: bool,
     /// How many combinations of one bank a scan judges at most.
     pub judged: u32,
 }

@@ -100,6 +100,14 @@ impl Chooser {
         Ok(if whole { Some(row) } else { None })
     }
 
+    /// Whether the rule is asked for each of its other parts at which points it has the value of its part `yes`.
+    pub(crate) fn is_asked(&self) -> bool {
+        match (self.others.len(), self.test) {
+            (1, Test::Is(_) | Test::Differs(_)) => false,
+            _ => true,
+        }
+    }
+
     /// All parts, from left to right.
     pub(crate) fn placed<X: Copy>(
         &self,

@@ -17,7 +17,7 @@ pub(crate) fn gather_further<R: Rules>(
     let [pool] = search.pools(role) else {
         return Ok(());
     };
-    let mut left = most;
+    let mut left = search.at_most(role, most);
     for shape in 0..search.task.shapes.len() {
         for places in combinations(search, shape, *pool, left)? {
             left = left.saturating_sub(1);

@@ -11,6 +11,8 @@ use sy_seq::Want;
 const EACH_OF_TWO: usize = 300;
 /// How many are taken for each of three.
 const EACH_OF_THREE: usize = 45;
+/// How many conditions of choosers that are asked for each are gathered at most, of kept terms and of rules over them.
+const MOST_ASKED: usize = 30_000;
 
 /// A task with what trials tell of its rules.
 #[derive(Drop)]
@@ -186,6 +188,18 @@ impl<'a, R: Rules> Search<'a, R> {
         }
     }
 
+    /// So many, but fewer where they are conditions of a chooser that is asked for each.
+    pub(crate) fn at_most(&self, role: Role, most: usize) -> usize {
+        let asked = MOST_ASKED.checked_div(self.choosers.len()).unwrap_or(0);
+        match role {
+            Role::Leaf => most,
+            Role::Condition(number) => match self.choosers.get(number) {
+                Some(chooser) if chooser.is_asked() => most.min(asked),
+                _ => most,
+            },
+        }
+    }
+
     /// Gathers kept terms that play the role.
     pub(crate) fn gather_kept(&self, role: Role, gathered: &mut Gathered) -> Result<(), Want> {
         let pools = self.pools(role);
@@ -193,7 +207,7 @@ impl<'a, R: Rules> Search<'a, R> {
         for pool in pools {
             numbers = numbers.saturating_mul(self.count(*pool, pools.len()));
         }
-        for number in 0..numbers {
+        for number in 0..self.at_most(role, numbers) {
             let places = self.places(pools, number)?;
             let mut columns = Vec::new(self.alloc);
             let mut size = 0u32;

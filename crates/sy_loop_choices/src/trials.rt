@@ -16,6 +16,8 @@ pub(crate) enum Operation {
     Add,
     Sub,
     Not,
+    /// A shift to the left by so many bits.
+    Left(u32),
     /// A shift to the right by so many bits.
     Right(u32),
 }
@@ -39,6 +41,7 @@ impl Operation {
             Operation::Add => first.wrapping_add(second) & greatest,
             Operation::Sub => first.wrapping_sub(second) & greatest,
             Operation::Not => first ^ greatest,
+            Operation::Left(by) => first.checked_shl(by).unwrap_or(0) & greatest,
             Operation::Right(by) => first.checked_shr(by).unwrap_or(0),
         }
     }
@@ -47,14 +50,14 @@ impl Operation {
     pub(crate) fn commutes(self) -> bool {
         match self {
             Operation::And | Operation::Or | Operation::Xor | Operation::Add => true,
-            Operation::Sub | Operation::Not | Operation::Right(_) => false,
+            Operation::Sub | Operation::Not | Operation::Left(_) | Operation::Right(_) => false,
         }
     }
 
     /// Whether twice is no more than once, or nothing, or what another kept term does once.
     pub(crate) fn undoes_itself(self) -> bool {
         match self {
-            Operation::Right(_) => false,
+            Operation::Left(_) | Operation::Right(_) => false,
             _ => true,
         }
     }
@@ -75,60 +78,78 @@ impl Operation {
     }
 }
 
-/// What the shape computes; `None` where that isn't one of these operations.
+/// What the shape computes, the first of these operations that has its values over samples of kept terms; `None` where
+/// none has.
 pub(crate) fn operation_of<R: Rules>(
     alloc: Global,
     rules: &R,
     task: &Task,
     shape: usize,
 ) -> Result<Option<Operation>, Want> {
-    let mut candidates = Vec::new(alloc);
-    if let [pool] = task.operands(shape) {
-        candidates.push(Operation::Not)?;
-        for by in 1..task.greatest(*pool).count_ones() {
-            candidates.push(Operation::Right(by))?;
+    let mut left = candidates(alloc, task, shape)?;
+    for sample in 0..SAMPLES {
+        if left.is_empty() {
+            return Ok(None);
         }
-    } else {
-        for operation in OF_TWO {
-            candidates.push(operation)?;
-        }
+        left = agreeing(alloc, rules, task, shape, sample, left.as_slice())?;
     }
-    for operation in &candidates {
-        if computes(alloc, rules, task, shape, *operation)? {
-            return Ok(Some(*operation));
-        }
+    match left.first() {
+        Some(operation) => Ok(Some(*operation)),
+        None => Ok(None),
     }
-    Ok(None)
 }
 
-/// Whether the shape has the operation's values over samples of kept terms.
-fn computes<R: Rules>(
+/// What the shape may compute.
+fn candidates(alloc: Global, task: &Task, shape: usize) -> Result<Vec<Operation>, Want> {
+    let mut candidates = Vec::new(alloc);
+    match task.operands(shape) {
+        [pool] => {
+            candidates.push(Operation::Not)?;
+            for by in 1..task.greatest(*pool).count_ones() {
+                candidates.push(Operation::Right(by))?;
+                candidates.push(Operation::Left(by))?;
+            }
+        }
+        [_, _] => {
+            for operation in OF_TWO {
+                candidates.push(operation)?;
+            }
+        }
+        _ => {}
+    }
+    Ok(candidates)
+}
+
+/// Those of the operations that have the shape's values over the sample of this number.
+fn agreeing<R: Rules>(
     alloc: Global,
     rules: &R,
     task: &Task,
     shape: usize,
-    operation: Operation,
-) -> Result<bool, Want> {
+    sample: usize,
+    operations: &[Operation],
+) -> Result<Vec<Operation>, Want> {
+    let mut found = Vec::new(alloc);
     let (first, second) = match task.operands(shape) {
         [pool] => (*pool, *pool),
         [first, second] => (*first, *second),
-        _ => return Ok(false),
+        _ => return Ok(found),
     };
-    for sample in 0..SAMPLES {
-        let x = task.values(first, task.place(first, sample.saturating_mul(613)));
-        let y = task.values(second, task.place(second, sample.saturating_mul(1_117)));
-        let values = if task.operands(shape).len() == 1 {
-            rules.values(alloc, shape, &[x])?
-        } else {
-            rules.values(alloc, shape, &[x, y])?
-        };
-        let Some(values) = values else {
-            return Ok(false);
-        };
+    let x = task.values(first, task.place(first, sample.saturating_mul(613)));
+    let y = task.values(second, task.place(second, sample.saturating_mul(1_117)));
+    let values = if task.operands(shape).len() == 1 {
+        rules.values(alloc, shape, &[x])?
+    } else {
+        rules.values(alloc, shape, &[x, y])?
+    };
+    let Some(values) = values else {
+        return Ok(found);
+    };
+    for operation in operations {
         let told = operation.values(alloc, task.greatest(first), x, y)?;
-        if agreement(values.as_slice(), told.as_slice()) != all_points(x.len()) {
-            return Ok(false);
+        if agreement(values.as_slice(), told.as_slice()) == all_points(x.len()) {
+            found.push(*operation)?;
         }
     }
-    Ok(true)
+    Ok(found)
 }

@@ -81,6 +81,7 @@ impl Target {
             Operation::Add => self.difference(wanted.value, kept)?,
             Operation::Sub if kept_first => self.difference(kept, wanted.value)?,
             Operation::Sub => wanted.value.wrapping_add(kept) & self.greatest,
+            Operation::Left(_) => return None,
             Operation::Right(by) => return self.before_shift(wanted, by),
             Operation::And | Operation::Or => return self.before_mask(operation, wanted, kept),
         };

@@ -20,7 +20,7 @@ const MOST_WRONG: usize = 16;
 
 /// A body that has the wanted values at the bank's points, found as one that chooses between kept terms, if it solves
 /// the problem: one that chooses little, or where it `is_last`, one that chooses often, or one below known operations
-/// over vectors where there are no variables and more than one bank is built. `None` where none was found to. Where it
+/// over vectors where there are no variables and the effort says so. `None` where none was found to. Where it
 /// has other values than constraints want, some tuples at which it has are added to `wrong`: a bank over these as well
 /// may have better ones.
 pub fn solve_chosen<T: Theory, D: Decide<T>>(
@@ -98,7 +98,7 @@ fn breadth_of<T: Theory>(task: &Task<T>, is_last: bool) -> Option<Breadth> {
     if !is_last {
         return Some(Breadth::Few);
     }
-    if are_vectors && task.problem.vars.len() == 0 && task.effort.banks > 1 {
+    if are_vectors && task.problem.vars.len() == 0 && task.effort.below {
         return Some(Breadth::Deep);
     }
     Some(Breadth::Many)

@@ -35,6 +35,7 @@ pub(crate) const WHOLE: Effort = Effort {
     refuted: 256,
     undecided: 8,
     banks: 2,
+    below: true,
     judged: 20_000_000,
 };
 
@@ -69,8 +70,9 @@ pub(crate) fn early_stage(limits: &Limits) -> Stage
         nodes: eighth(limits.nodes, 100),
         effort: Effort {
             refuted: 64,
-            undecided: 4,
+            undecided: 1,
             banks: 1,
+            below: false,
             judged: 2_000_000,
         },
         learning: Learning {
@@ -120,6 +122,7 @@ pub(crate) fn wide_stage(limits: &Limits, bank: u32) -> Stage
             refuted: 256,
             undecided: 4,
             banks: 1,
+            below: false,
             judged: 2_000_000,
         },
         learning: Learning {

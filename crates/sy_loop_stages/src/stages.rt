@@ -23,6 +23,9 @@ use sy_terms::{Theory, Want};
 /// How many terms are kept by the searches for solutions alone at the end.
 const WIDE_BANKS: [u32; 2] = [1_000, 3_000];
 
+/// How many are kept there at most: with more of them such a search takes longer than the one that ended.
+const MOST_KEPT: u32 = 3_000;
+
 /// What the search for bodies answers. Where one function is to be found and `staged` says so, an early search with
 /// few kept terms comes first; what it finds, or what is found beyond it, is answered. Else the whole search answers,
 /// or what is found beyond it. Where nothing was found, and `staged` says so, solutions alone are looked for up to
@@ -133,9 +136,10 @@ fn found_after<T: Theory, D: Decide<T>>(
     Ok(again)
 }
 
-/// The first solution that searches up to larger sizes find, with few kept terms; with all of them only where the
-/// search ended after its greatest size, since else its bank was full before. Where it ended by a full bank, the one with
-/// the fewest terms would repeat the early search, so it is left out; after other limits none is made.
+/// The first solution that searches up to larger sizes find, with few kept terms; with all of them only where these are
+/// few and the search ended after its greatest size, since else its bank was full before. Where it ended by a full
+/// bank, the one with the fewest terms would repeat the early search, so it is left out; after other limits none is
+/// made.
 fn found_wider<T: Theory, D: Decide<T>>(
     alloc: Global,
     problem: &Problem<T>,
@@ -161,7 +165,7 @@ fn found_wider<T: Theory, D: Decide<T>>(
             }
         }
     }
-    if !by_size {
+    if !by_size || limits.bank > MOST_KEPT {
         return Ok(None);
     }
     let found = found_wide(alloc, problem, limits, limits.bank, decide, aside)?;
