@@ -7,4 +7,5 @@ mod turns;
 
 pub use answers::{BvProof, BvSpent};
 pub use decider::BvDecide;
-pub use sy_bits_circuit::{Circuit, blast, fits};
+pub use sy_bits_circuit::{Circuit, blast};
+pub use sy_query::fits;

@@ -8,11 +8,11 @@ ghost use Rattle.sy_bits_circuit.specs.Alike.{SpeaksFor};
 
 use crate::circuit::{Circuit, blast};
 use crate::closed::closed_circuit;
-use crate::fitting::fits;
 use crate::room::{LARGEST, countable_size};
 use std::alloc::Global;
 use sy_clauses::Cnf;
 use sy_meaning_words::BvTheory;
+use sy_query::fits;
 use sy_query_base::Query;
 use sy_query_normal::normal_query;
 use sy_rewrite_orders::{ordered, settled_query};

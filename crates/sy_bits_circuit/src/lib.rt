@@ -4,7 +4,6 @@
 mod circuit;
 mod clauses;
 mod closed;
-mod fitting;
 mod inputs;
 mod leaves;
 mod room;
@@ -14,5 +13,4 @@ mod width;
 
 pub use circuit::{Circuit, blast};
 pub use clauses::query_circuit;
-pub use fitting::fits;
 pub use terms::{signal_of, signals_of};

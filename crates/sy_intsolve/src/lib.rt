@@ -12,7 +12,6 @@ mod lowered;
 mod measures;
 mod open;
 mod plan;
-mod queries;
 mod rounds;
 mod search;
 mod spent;
@@ -21,7 +20,7 @@ mod subset;
 mod way;
 
 pub use decider::IntDecide;
-pub use queries::fits;
 pub use search::solve_query;
 pub use sy_intsolve_cuts::{IntRange, IntSpent};
 pub use sy_linear_known::Tree;
+pub use sy_query::fits;

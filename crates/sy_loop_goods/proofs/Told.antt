@@ -1,22 +1,19 @@
 -- Whether constraints are true under bodies, each at a stored assignment.
-use Rattle.std.proofs.Common.{◌≡◌, ◌<◌, ◌≤◌, ◌+◌, ⊎_elim, refl, ap, sym, subst, ◌∙◌, ℕ, Bool, true, false, List, [], ◌∷◌, Some, length, map, take, get_or, slice_get}
-use Rattle.std.specs.Prelude.{◌↔◌, IsTrue}
+use Rattle.std.proofs.Common.{◌≡◌, ◌<◌, ◌≤◌, ◌+◌, ⊎_elim, refl, ap, sym, subst, ◌∙◌, ℕ, Bool, true, false, List, [], ◌∷◌, Option, Some, None, length, map, take, get_or, slice_get}
 use Rattle.std.specs.List.{All, Contains}
 use Rattle.std.specs.Option.{option_map}
 use Rattle.std.proofs.lemmas.Bool.{true≢false}
 use Rattle.std.proofs.lemmas.List.{take_all, take_more}
 use Rattle.std.proofs.lemmas.Option.{slice_get-map, slice_get_within}
 use Rattle.std.proofs.lemmas.List.Elements.{All-cons, All-nil, All-push, Contains-append_right, Contains-push_cases}
-use Rattle.sy_terms.specs.Values.{Val, Truth}
+use Rattle.sy_terms.specs.Values.{Val}
 use Rattle.sy_terms.specs.Expr.{Expr}
 use Rattle.sy_terms.specs.Denoted.{expr_of, vals_of}
-use Rattle.sy_terms.specs.Definitions.{bodies}
-use Rattle.sy_terms.specs.Meaning.{Function, function_from, functions, meaning}
 use Rattle.sy_terms.specs.declared.op.Op.{Op}
 use Rattle.sy_terms.specs.declared.sort.Value.{Value}
-use Rattle.sy_terms.specs.declared.term.Def.{Def}
 use Rattle.sy_terms.specs.declared.term.Term.{Term}
-use Rattle.sy_terms_operators.specs.Evaluation.{BodiesFit, GivesValue, wanted_functions}
+use Rattle.sy_terms_operators.specs.Evaluation.{BodiesFit}
+use Rattle.sy_meaning.specs.Truths.{GivesTruth}
 use Rattle.sy_grammar_base.specs.Fits.{IsTruth}
 use Rattle.sy_grammar_base.specs.Questions.{Question, question_of, signatures}
 use Rattle.sy_grammar_base.specs.Solving.{AreValues, IsTrueUnder}
@@ -27,7 +24,7 @@ use Rattle.sy_loop_spec.specs.Histories.{Counterexample}
 use Rattle.sy_loop_spec.specs.Stored.{counterexample_of, history_of}
 use Rattle.sy_loop_truth.proofs.Places.{place_of}
 use Rattle.sy_loop_truth.proofs.Items.{has_place}
-use Rattle.sy_loop_truth.proofs.Saying.{fits_with}
+use Rattle.sy_loop_truth.proofs.Saying.{means, says_true, says_leaves}
 use Rattle.sy_loop_truth.proofs.Traced.{no_element}
 use Rattle.sy_loop_truth.specs.Traces.{LeavesRangeAt}
 use Rattle.sy_loop_spec.specs.Goods.{assignments_of}
@@ -38,21 +35,13 @@ use Rattle.sy_loop_truth.specs.Rests.{IsRest}
 use Rattle.sy_loop_goods.specs.Telling.{TellsTruth}
 use Rattle.sy_loop_truth.specs.declared.rest.Rest.{Rest}
 
-functions_are : {T N : Type 0} (number : N → Val) (defs : List (Def T N)) (terms : List (Term T N)) → wanted_functions number defs terms ≡ map (function_from (functions (bodies number defs))) (map (expr_of number) terms)
-functions_are number defs [] = refl
-functions_are number defs (term ∷ terms) = ap (λ (fs : List Function). function_from (functions (bodies number defs)) (expr_of number term) ∷ fs) (functions_are number defs terms)
-
--- what a value tells
+-- what evaluation tells
 module _ {T N : Type 0} (owned : Op → Bool) (number : N → Val) (problem : Problem T N) (terms : List (Term T N)) (values : List Val) (term : Term T N) (fit : BodiesFit owned number problem.defs terms (signatures problem))
-    (are : AreValues problem.vars values) (truth : IsTruth owned number problem term) (value : Val) (gives : GivesValue owned number problem.defs terms values (expr_of number term) value) where
-  means : value ≡ meaning (functions (bodies number problem.defs)) (map (function_from (functions (bodies number problem.defs))) (map (expr_of number) terms)) values (expr_of number term)
-  means =
-      let fits = fits_with owned number problem terms values term fit are truth in
-      (gives fits.wanted fits.bodies fits.fits).meaning ∙ ap (λ fs. meaning (functions (bodies number problem.defs)) fs values (expr_of number term)) (functions_are number problem.defs terms)
-
-  pub told : (holds : Bool) → (IsTrue holds ↔ value ≡ Truth true) → TellsTruth (question_of number problem) (map (expr_of number) terms) values (expr_of number term) (Some holds)
-  told true decided = sym means ∙ decided.0 refl
-  told false decided = λ is. true≢false (sym (decided.1 (means ∙ is)))
+    (are : AreValues problem.vars values) (truth : IsTruth owned number problem term) where
+  pub told : (found : Option Bool) → GivesTruth owned number problem.defs terms values (expr_of number term) found → TellsTruth (question_of number problem) (map (expr_of number) terms) values (expr_of number term) found
+  told (Some true) has = says_true owned number problem terms values term fit are truth has
+  told (Some false) has = λ is. true≢false (sym (has.tells.1 (means owned number problem terms values term fit are truth has.value has.gives ∙ is)))
+  told None cannot = says_leaves owned number problem terms values term fit are truth cannot
 
 same_item : {X : Type 0} (xs : List X) (k : ℕ) (x y : X) → slice_get xs k ≡ Some x → slice_get xs k ≡ Some y → x ≡ y
 same_item xs k x y one other = let e = sym one ∙ other in cc

@@ -13,11 +13,11 @@ ghost use Rattle.sy_loop_goods.specs.Telling.{TellsTruth};
 use crate::Memo;
 use crate::recall::{judged_by, value_at};
 use crate::task::LeafTask;
-use std::alloc::{AllocError, Global};
+use std::alloc::Global;
 use sy_bank_level::Kept;
 use sy_loop_truth::Rest;
-use sy_meaning::{Eval, Trace, evaluate_with};
-use sy_terms::{Bodies, Seq, Term, Theory, Value, Want, is_true};
+use sy_meaning::{Trace, truth_with};
+use sy_terms::{Bodies, Seq, Term, Theory, Value, Want};
 
 /// Whether constraints are true under bodies, each at a stored assignment.
 #[derive(Clone, Copy)]
@@ -119,16 +119,13 @@ fn tell<T: Theory>(
         (map (expr_of T.denotes) bodies.now) (vals_of T.denotes values.now) (expr_of T.denotes constraint.now)) }
 {
     let mut calls = Trace::new(task.alloc);
-    match evaluate_with(
+    let truth = truth_with(
         task.alloc,
         &task.problem.defs,
         bodies,
         values,
         constraint,
         &mut calls,
-    ) {
-        Ok(value) => Ok(Some(is_true::<T>(&value))),
-        Err(Eval::Range) => Ok(None),
-        Err(Eval::Want) => Err(AllocError),
-    }
+    )?;
+    Ok(truth)
 }

@@ -2,6 +2,7 @@
 use Rattle.std.proofs.Common.{◌≡◌, ◌++◌, refl, ap, sym, subst, ◌∙◌, ℕ, Bool, true, false, List, [], ◌∷◌, map}
 use Rattle.std.specs.List.{Contains, All}
 use Rattle.std.specs.Prelude.{Some}
+use Rattle.std.proofs.lemmas.Bool.{true≢false}
 use Rattle.std.proofs.lemmas.List.Elements.{All-contains, All-contains_itself, All-weaker, Contains-append_left, Contains-append_right}
 use Rattle.sy_terms.specs.Values.{Val, Truth}
 use Rattle.sy_terms.specs.Expr.{Expr}
@@ -17,6 +18,7 @@ use Rattle.sy_terms_operators.specs.Evaluation.{BodiesFit, TermFits, FitsWith, G
 use Rattle.sy_terms_operators.specs.Asking.{asks}
 use Rattle.sy_terms_operators.specs.Tracing.{GainsCalls}
 use Rattle.sy_meaning.specs.Calls.{IsCallOf, AsksRightly}
+use Rattle.sy_meaning.specs.Truths.{HasTruth}
 use Rattle.sy_grammar_base.specs.Questions.{Goal, Question, goal_of, question_of, signatures, wanted_signature}
 use Rattle.sy_grammar_base.specs.Solving.{AreValues, IsTrueUnder, Meets}
 use Rattle.sy_grammar_base.specs.declared.problem.Problem.{Problem}
@@ -25,7 +27,7 @@ use Rattle.sy_loop_spec.specs.Budgets as budgets
 use Rattle.sy_loop_truth.specs.declared.truth.Truth as answer
 use Rattle.sy_loop_truth.specs.declared.truth.Truth.TheVariants.{True, False, Leaves}
 use Rattle.sy_loop_spec.specs.Truths.{asked_by, IsFalseByCalls, IsOneFalse, OneLeaves}
-use Rattle.sy_loop_truth.specs.Answers.{AnswersValue, Says, SaysOfAll, JudgesBodies}
+use Rattle.sy_loop_truth.specs.Answers.{SaysOfAll, JudgesBodies}
 use Rattle.sy_loop_truth.proofs.Traced.{gained_all, gained_only}
 use Rattle.sy_grammar_base.specs.Fits.{IsTruth, wanted_of}
 
@@ -49,7 +51,8 @@ module _ {T N : Type 0} (owned : Op → Bool) (number : N → Val) (problem : Pr
   pub fits_with : FitsWith owned number problem.defs terms values (expr_of number term)
   fits_with = record { wanted = signatures problem; bodies = fit; fits = term_fits }
 
-  means : (value : Val) → GivesValue owned number problem.defs terms values (expr_of number term) value →
+  -- its value is its meaning
+  pub means : (value : Val) → GivesValue owned number problem.defs terms values (expr_of number term) value →
       value ≡ meaning (functions (bodies number problem.defs)) (map (function_from (functions (bodies number problem.defs))) (map (expr_of number) terms)) values (expr_of number term)
   means value gives =
       (gives (signatures problem) fit term_fits).meaning ∙ ap (λ fs. meaning (functions (bodies number problem.defs)) fs values (expr_of number term)) (functions_are number problem.defs terms)
@@ -74,14 +77,16 @@ module _ {T N : Type 0} (owned : Op → Bool) (number : N → Val) (problem : Pr
         taken = All-weaker (Contains calls) (IsCallOf (wanted_of (question_of number problem))) (λ call at. call_taken rightly call (gained_only all calls gains call at)) calls (All-contains_itself calls);
       }
 
-  -- the answer by a value
-  pub says : (value : Val) (calls : List (ℕ × List Val)) (given : answer.Truth T N) → GivesValue owned number problem.defs terms values (expr_of number term) value →
-      GainsCalls [] (asks number problem.defs terms values (expr_of number term)) calls → AsksRightly owned number problem.defs terms values (expr_of number term) → AnswersValue value calls given →
-      Says (question_of number problem) (map (expr_of number) terms) values (expr_of number term) given
-  says value calls True gives gains rightly decided = sym (means value gives) ∙ decided
-  says value calls (False others) gives gains rightly decided =
-      subst (λ some. IsFalseByCalls (question_of number problem) (map (expr_of number) terms) values (expr_of number term) some) (sym decided.1) (is_false value calls gives decided.0 gains rightly)
-  says value calls Leaves gives gains rightly decided = absurd decided
+  -- where the term is true
+  pub says_true : HasTruth owned number problem.defs terms values (expr_of number term) true →
+      IsTrueUnder (question_of number problem) (map (expr_of number) terms) values (expr_of number term)
+  says_true has = sym (means has.value has.gives) ∙ has.tells.0 refl
+
+  -- where it isn't, by these calls
+  pub says_false : (calls : List (ℕ × List Val)) → HasTruth owned number problem.defs terms values (expr_of number term) false →
+      GainsCalls [] (asks number problem.defs terms values (expr_of number term)) calls → AsksRightly owned number problem.defs terms values (expr_of number term) →
+      IsFalseByCalls (question_of number problem) (map (expr_of number) terms) values (expr_of number term) calls
+  says_false calls has gains rightly = is_false has.value calls has.gives (λ is. true≢false (sym (has.tells.1 is))) gains rightly
 
   -- where the term can't be computed
   pub says_leaves : can_compute number problem.defs terms values (expr_of number term) ≡ false → budgets.LeavesRange (question_of number problem) (map (expr_of number) terms) values (expr_of number term)

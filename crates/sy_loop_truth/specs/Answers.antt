@@ -1,6 +1,6 @@
 -- What becomes of terms and of calls.
-use Rattle.std.specs.Prelude.{ℕ, true, ◌≡◌, ◌<◌, List, ◌++◌, All}
-use Rattle.sy_terms.specs.Values.{Val, Truth}
+use Rattle.std.specs.Prelude.{ℕ, ◌≡◌, ◌<◌, List, ◌++◌, All}
+use Rattle.sy_terms.specs.Values.{Val}
 use Rattle.sy_terms.specs.Expr.{Expr}
 use Rattle.sy_grammar_base.specs.Questions.{Question}
 use Rattle.sy_grammar_base.specs.Solving.{IsTrueUnder, Meets}
@@ -13,12 +13,6 @@ use Rattle.sy_loop_truth.specs.declared.calls.Adding.TheVariants as adding
 use Rattle.sy_loop_truth.specs.declared.calls.Adding.TheVariants.{There, New}
 use Rattle.sy_loop_truth.specs.declared.truth.Truth as answer
 use Rattle.sy_loop_truth.specs.declared.truth.Truth.TheVariants.{True, False, Leaves}
-
--- the answer of a value
-abbrev pub AnswersValue : {T N : Type 0} → Val → List (ℕ × List Val) → answer.Truth T N → Type 0
-AnswersValue value calls True = value ≡ Truth true
-AnswersValue value calls (False others) = (value ≡ Truth true → ⊥) × (others ≡ calls)
-AnswersValue value calls Leaves = ⊥
 
 -- the answer of a term
 abbrev pub Says : {T N : Type 0} → Question → List Expr → List Val → Expr → answer.Truth T N → Type 0

@@ -1,16 +1,16 @@
 // Whether terms are true under bodies at an assignment.
 ghost use Rattle.std.specs.Prelude.{map, All, IfOk};
-ghost use Rattle.sy_terms.specs.Denoted.{val_of, expr_of, vals_of};
+ghost use Rattle.sy_terms.specs.Denoted.{expr_of, vals_of};
 ghost use Rattle.sy_grammar_base.specs.Questions.{question_of};
 ghost use Rattle.sy_grammar_base.specs.Solving.{AreValues};
-ghost use Rattle.sy_loop_truth.specs.Answers.{Says, SaysOfAll, JudgesBodies, AnswersValue};
+ghost use Rattle.sy_loop_truth.specs.Answers.{Says, SaysOfAll, JudgesBodies};
 ghost use Rattle.sy_grammar_base.specs.Fits.{ProblemFits, IsTruth};
 ghost use Rattle.sy_loop_truth.specs.Clauses.{FitAsBodies};
 
 use std::alloc::Global;
 use sy_grammar_base::Problem;
-use sy_meaning::{Eval, Trace, evaluate_with};
-use sy_terms::{Bodies, Term, Theory, Value, Want, is_true};
+use sy_meaning::{Trace, truth_with};
+use sy_terms::{Bodies, Term, Theory, Value, Want};
 
 /// Whether something is true under bodies at an assignment.
 #[derive(Drop)]
@@ -99,20 +99,9 @@ fn truth_of<T: Theory>(
         (map (expr_of T.denotes) bodies.now) (vals_of T.denotes values.now) (expr_of T.denotes term.now)) }
 {
     let mut calls = Trace::new(alloc);
-    match evaluate_with(alloc, &problem.defs, bodies, values, term, &mut calls) {
-        Ok(value) => Ok(decided(&value, calls)),
-        Err(Eval::Range) => Ok(Truth::Leaves),
-        Err(Eval::Want) => Err(Want {}),
-    }
-}
-
-/// True where the value is; else false by these calls.
-fn decided<T: Theory>(value: &Value<T::Num>, calls: Trace<T>) -> Truth<T>
-    ensures { AnswersValue (val_of T.denotes value.now) calls result }
-{
-    if is_true::<T>(value) {
-        Truth::True
-    } else {
-        Truth::False(calls)
+    match truth_with(alloc, &problem.defs, bodies, values, term, &mut calls)? {
+        Some(true) => Ok(Truth::True),
+        Some(false) => Ok(Truth::False(calls)),
+        None => Ok(Truth::Leaves),
     }
 }

@@ -5,6 +5,7 @@
 mod built;
 mod choices;
 mod constants;
+mod fitting;
 mod leaf;
 mod numbers;
 mod place;
@@ -15,6 +16,7 @@ mod trial;
 mod weight;
 
 pub use built::Built;
+pub use fitting::fits;
 pub use queries::{build, weigh};
 pub use sy_query_base::{Decide, Query, Verdict};
 pub use sy_query_limits::{FailName, Limits};

@@ -10,9 +10,9 @@ use crate::constants::constants_of;
 use crate::numbers::{count, has_vector, number_in, numbers_at, with_number};
 use crate::places::{Shuffle, stepped};
 use std::alloc::Global;
-use sy_meaning::{Eval, evaluate};
+use sy_meaning::truth_of;
 use sy_query_base::Query;
-use sy_terms::{Defs, Seq, Sort, Theory, Value, Values, Want, is_true};
+use sy_terms::{Defs, Seq, Sort, Theory, Value, Values, Want};
 
 /// The most assignments that are tried by steps.
 const TRIES: usize = 64;
@@ -201,9 +201,8 @@ fn holds<T: Theory>(alloc: Global, query: &Query<T>, values: &[Value<T::Num>]) -
         Satisfies (query_of T.denotes query.now) (vals_of T.denotes values.now)) }
 {
     let defs: Defs<T> = Seq::new(alloc);
-    match evaluate(alloc, &defs, values, &query.body) {
-        Ok(value) => Ok(is_true::<T>(&value)),
-        Err(Eval::Range) => Ok(false),
-        Err(Eval::Want) => Err(Want {}),
+    match truth_of(alloc, &defs, values, &query.body)? {
+        Some(truth) => Ok(truth),
+        None => Ok(false),
     }
 }

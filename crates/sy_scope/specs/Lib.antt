@@ -2,7 +2,6 @@ pub mod Entered
 pub mod Fit
 pub mod Fronts
 pub mod Grammars
-pub mod Knowing
 pub mod Laws
 pub mod Own
 pub mod Read

@@ -6,7 +6,7 @@ ghost use Rattle.sy_terms.specs.Logics.{Serves};
 ghost use Rattle.sy_scope_declared.specs.Seen.{context_of};
 ghost use Rattle.sy_scope_steps.specs.Steps as spec;
 
-use crate::definitions::{Known, read_in};
+use crate::definitions::read_in;
 use std::alloc::Global;
 use sy_forms_items::{ReadEnd, Role};
 use sy_scope_declared::{Condition, Context, note_literals};
@@ -24,12 +24,7 @@ pub(crate) fn constrain<T: Theory>(
         (spec.constrain (context_of T.denotes context.old) context.old.logic (item_of term.now)) }
     ensures logic { OnOk result (context.new.logic ≡ context.old.logic) }
 {
-    let known = Known {
-        logic: context.logic,
-        names: &context.names,
-        fresh: context.fresh,
-        measures: &context.measures,
-    };
+    let known = context.known();
     let phrase = read_in(alloc, &known, Role::Constraint, &[], Sort::Bool, term)?;
     let noted = note_literals(alloc, &mut context.pool, &phrase);
     let kept = context.constraints.push(Condition::Written(phrase));
@@ -49,12 +44,7 @@ pub(crate) fn assume<T: Theory>(
         (spec.assume (context_of T.denotes context.old) context.old.logic (item_of term.now)) }
     ensures logic { OnOk result (context.new.logic ≡ context.old.logic) }
 {
-    let known = Known {
-        logic: context.logic,
-        names: &context.names,
-        fresh: context.fresh,
-        measures: &context.measures,
-    };
+    let known = context.known();
     let phrase = read_in(alloc, &known, Role::Assumption, &[], Sort::Bool, term)?;
     let noted = note_literals(alloc, &mut context.pool, &phrase);
     let kept = context.assumptions.push(phrase);

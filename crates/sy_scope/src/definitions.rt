@@ -9,29 +9,17 @@ ghost use Rattle.sy_forms_items.specs.Measures.{is_within_limits};
 ghost use Rattle.sy_terms.specs.Logics.{Serves};
 ghost use Rattle.sy_scope_names.specs.Asked.{spelled_of};
 ghost use Rattle.sy_scope_declared.specs.Seen.{context_of, definition_of};
-ghost use Rattle.sy_scope.specs.Knowing.{known_of};
+ghost use Rattle.sy_scope_declared.specs.Knowing.{known_of};
 ghost use Rattle.sy_scope.specs.Entered.{definition_read};
 ghost use Rattle.sy_scope_steps.specs.Steps as spec;
 
 use std::alloc::Global;
 use sy_forms::read_whole;
-use sy_forms_items::{
-    Environment, Measures, Named, Names, Phrase, ReadEnd, Role, copied, read_sort,
-};
-use sy_scope_declared::{Context, Definition};
+use sy_forms_items::{Environment, Named, Phrase, ReadEnd, Role, copied, read_sort};
+use sy_scope_declared::{Context, Definition, Known};
 use sy_scope_names::{Naming, Spelled, new_name, read_named};
-use sy_terms::{Logic, Sort, Theory};
+use sy_terms::{Sort, Theory};
 use sy_text_items::{Sexp, Sexps};
-
-/// What is declared: the logic, the names, how many fresh variables there are beside them, and the measures of
-/// definitions.
-#[derive(Clone, Copy)]
-pub(crate) struct Known<'a> {
-    pub(crate) logic: Logic,
-    pub(crate) names: &'a Names,
-    pub(crate) fresh: usize,
-    pub(crate) measures: &'a Measures,
-}
 
 /// The whole term of the sort that the item is, over these arguments.
 pub(crate) fn read_in<T: Theory>(
@@ -111,12 +99,7 @@ pub(crate) fn define<T: Theory>(
         context.old) context.old.logic (spelled_of name.entry) arguments.now (item_of sort.now) (item_of body.now)) }
     ensures logic { OnOk result (context.new.logic ≡ context.old.logic) }
 {
-    let known = Known {
-        logic: context.logic,
-        names: &context.names,
-        fresh: context.fresh,
-        measures: &context.measures,
-    };
+    let known = context.known();
     let definition = read_definition(alloc, &known, name, arguments, sort, body)?;
     context.add_definition(alloc, definition)?;
     Ok(())

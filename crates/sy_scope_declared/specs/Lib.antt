@@ -1,3 +1,4 @@
+pub mod Knowing
 pub mod Seen
 pub mod Calls
 pub mod Goals

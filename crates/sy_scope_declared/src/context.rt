@@ -1,6 +1,7 @@
 // What the commands so far declare and ask for.
 ghost use Rattle.std.specs.Prelude.{◌≡◌};
 ghost use Rattle.sy_scope_names.specs.Contexts as spec;
+ghost use Rattle.sy_scope_declared.specs.Knowing.{known_of, declared_in};
 ghost use Rattle.sy_scope_declared.specs.Seen.{context_of};
 
 use std::alloc::Global;
@@ -56,6 +57,16 @@ pub struct Context<T: Theory> {
     pub questions: Seq<Problem<T>>,
 }
 
+/// What is declared: the logic, the names, how many fresh variables there are beside them, and the measures of
+/// definitions.
+#[derive(Clone, Copy)]
+pub struct Known<'a> {
+    pub logic: Logic,
+    pub names: &'a Names,
+    pub fresh: usize,
+    pub measures: &'a Measures,
+}
+
 impl<T: Theory> Context<T> {
     /// The context of a file in which only the logic was set.
     pub fn new(alloc: Global, logic: Logic) -> Context<T>
@@ -77,6 +88,19 @@ impl<T: Theory> Context<T> {
             constraints: Seq::new(alloc),
             pool: Pool::new(alloc),
             questions: Seq::new(alloc),
+        }
+    }
+
+    /// What is declared.
+    pub fn known(&self) -> Known<'_>
+        ensures logic { result.logic ≡ self.now.logic }
+        ensures known { known_of result ≡ declared_in (context_of T.denotes self.now) }
+    {
+        Known {
+            logic: self.logic,
+            names: &self.names,
+            fresh: self.fresh,
+            measures: &self.measures,
         }
     }
 }

@@ -11,6 +11,6 @@ mod sought;
 mod titles;
 
 pub use asked::{Asked, check_feature, read_request};
-pub use context::{Condition, Context, Definition, Sought};
+pub use context::{Condition, Context, Definition, Known, Sought};
 pub use definition::note_literals;
 pub use invariant::Spellings;

@@ -1,6 +1,6 @@
 // Counting the constraints that are true.
 ghost use Rattle.std.specs.Prelude.{◌≡◌, ◌<◌, ◌^◌, [], length, map, count_by, All, IfOk};
-ghost use Rattle.sy_terms.specs.Denoted.{val_of, expr_of};
+ghost use Rattle.sy_terms.specs.Denoted.{expr_of};
 ghost use Rattle.sy_grammar_base.specs.Fits.{ProblemFits, IsTruth};
 ghost use Rattle.sy_grammar_base.specs.Questions.{question_of};
 ghost use Rattle.sy_grammar_base.specs.Solving.{AreMembers};
@@ -8,8 +8,8 @@ ghost use Rattle.sygus_drills.specs.Counts.{AlwaysFit, is_met, met_count};
 
 use std::alloc::Global;
 use sy_grammar_base::Problem;
-use sy_meaning::{Eval, Trace, evaluate_with};
-use sy_terms::{Bodies, Seq, Term, Theory, Values, Want, is_true};
+use sy_meaning::{Trace, truth_with};
+use sy_terms::{Bodies, Seq, Term, Theory, Values, Want};
 
 /// How many of the constraints are true under the bodies, which are members of the grammars. There are no variables,
 /// and each value of the theory's operators fits the machine's numbers.
@@ -73,16 +73,16 @@ fn holds<T: Theory>(
 {
     let values: Values<T> = Seq::new(alloc);
     let mut calls = Trace::new(alloc);
-    match evaluate_with(
+    let truth = truth_with(
         alloc,
         &problem.defs,
         bodies,
         values.as_slice(),
         term,
         &mut calls,
-    ) {
-        Ok(value) => Ok(is_true::<T>(&value)),
-        Err(Eval::Range) => unreachable!(),
-        Err(Eval::Want) => Err(Want {}),
-    }
+    )?;
+    let Some(truth) = truth else {
+        unreachable!();
+    };
+    Ok(truth)
 }
