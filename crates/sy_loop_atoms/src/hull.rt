@@ -17,8 +17,8 @@ const MOST_NUMBER: u128 = 1_000_000_000;
 /// Up to which magnitude coefficients of equalities are looked for, where the problem has no greater integer.
 const LEAST_COEFFICIENT: i128 = 12;
 
-/// How many sums of up to eight vectors there are.
-const VECTOR_SUMS: u32 = 6_561;
+/// Of how many arguments at most vectors are summed.
+const MOST_SUMMED: usize = 8;
 
 impl Atoms {
     /// Adds equalities of sums of arguments that hold at all tuples inside, the shortest first and at most so many; of
@@ -77,8 +77,9 @@ impl Atoms {
         requires { ProblemFits T.Theory setting.now.problem.now }
     {
         let mut left = most;
+        let count = vector_sums(self.shape.sorts.len());
         for size in 2..5u32 {
-            for number in 0..VECTOR_SUMS {
+            for number in 0..count {
                 if left == 0 {
                     return Ok(());
                 }
@@ -112,6 +113,15 @@ impl Atoms {
         }
         Ok(true)
     }
+}
+
+/// How many sums of so many arguments there are, whose coefficients are 0, 1 and -1.
+fn vector_sums(arguments: usize) -> u32 {
+    let mut count = 1u32;
+    for _ in 0..arguments.min(MOST_SUMMED) {
+        count = count.saturating_mul(3);
+    }
+    count
 }
 
 /// The numbers of the tuples inside, each with a 1 behind. An integer that is too large leaves its tuple out.

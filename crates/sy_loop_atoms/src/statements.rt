@@ -37,6 +37,16 @@ impl Statements {
         self.items.as_slice()
     }
 
+    /// Whether one of them calls the function more than once, and so ties the labels of several points together.
+    pub fn ties(&self) -> bool {
+        for statement in &self.items {
+            if statement.calls.len() > 1 {
+                return true;
+            }
+        }
+        false
+    }
+
     /// How many nodes they have.
     pub fn nodes(&self) -> u64 {
         self.nodes

@@ -29,6 +29,7 @@ pub(crate) fn try_formula<T: Theory, D: Decide<T>>(
     ensures assigned { OnOk result (AreAssignedFor T.Theory task.now.problem.now assignments.new.items) }
     ensures found { IfOk result (IsFoundFor T.Theory D.Decide task.now.problem.now task.now.bound) }
 {
+    learning.left = learning.left.saturating_sub(1);
     let known = assignments.len();
     if let Some(term) = written(task, learning, formula)? {
         if let Some(found) = try_new(task, decide, learning, term, assignments, aside)? {

@@ -6,9 +6,20 @@ ghost use Rattle.sy_loop_bodies.specs.Clauses.{AreAssignedFor, AreFoundFor, IsFo
 use crate::asking::try_formula;
 use crate::learning::Learning;
 use sy_bank_level::Bank;
-use sy_loop_bodies::{Aside, Task};
+use sy_loop_atoms::Statements;
+use sy_loop_bodies::{Aside, Effort, Task};
 use sy_query_base::Decide;
+use sy_query_limits::Limits;
 use sy_terms::{Bodies, Sort, Theory, Values, Want};
+
+/// How many formulas are tried at most where no constraint ties the labels of several points together: what is wanted at
+/// one point says nothing of another one, so that each formula that is refuted tells little. One may be left undecided.
+const MOST_APART: u32 = 8;
+
+/// How many clauses the solver may learn there of the query of one formula, and how many inner nodes its tree may have.
+const CLAUSES_APART: u32 = 2_000;
+
+const NODES_APART: u32 = 500;
 
 /// After so many formulas that failed what they changed is forgotten.
 const ATTEMPT: u32 = 150;
@@ -22,7 +33,8 @@ const MOST_SHORTER: u32 = 14;
 /// A body of sort Bool that solves the problem: a formula over comparisons of the arguments and kept terms of the bank,
 /// learned from what constraints say at the assignments and at those that refute others before it. Once one is found, a
 /// shorter one is looked for. `None` where none was found to solve the problem, within as many refuted ones as the task's
-/// effort says; nothing follows from it. `Want` comes as in `solve_kept`.
+/// effort says, or few where no constraint ties several points together; nothing follows from it. `Want` comes as in
+/// `solve_kept`.
 pub fn solve_learned<T: Theory, D: Decide<T>>(
     task: &Task<T>,
     decide: &mut D,
@@ -39,7 +51,67 @@ pub fn solve_learned<T: Theory, D: Decide<T>>(
     if !is_predicate(task) || task.effort.refuted == 0 {
         return Ok(None);
     }
-    let mut learning = Learning::new(task)?;
+    let statements = Statements::new(task.alloc, task.problem)?;
+    if statements.ties() {
+        let found = solve_stated(task, decide, bank, statements, assignments, aside)?;
+        return Ok(found);
+    }
+    let found = solve_apart(task, decide, bank, statements, assignments, aside)?;
+    Ok(found)
+}
+
+/// The same where what constraints state ties no points together, with little effort.
+fn solve_apart<T: Theory, D: Decide<T>>(
+    task: &Task<T>,
+    decide: &mut D,
+    bank: Option<&Bank<T>>,
+    statements: Statements,
+    assignments: &mut Vec<Values<T>>,
+    aside: &mut Aside<T>,
+) -> Result<Option<(Bodies<T>, D::Proof)>, Want>
+    requires problem { ProblemFits T.Theory task.now.problem.now }
+    requires one { length task.now.problem.now.wanted ≡ 1 }
+    requires assigned { AreAssignedFor T.Theory task.now.problem.now assignments.old.items }
+    ensures assigned { OnOk result (AreAssignedFor T.Theory task.now.problem.now assignments.new.items) }
+    ensures found { IfOk result (IsFoundFor T.Theory D.Decide task.now.problem.now task.now.bound) }
+{
+    let limits = Limits {
+        clauses: task.limits.clauses.min(CLAUSES_APART),
+        nodes: task.limits.nodes.min(NODES_APART),
+        ..*task.limits
+    };
+    let apart = Task {
+        alloc: task.alloc,
+        problem: task.problem,
+        limits: &limits,
+        size: task.size,
+        bound: task.bound,
+        effort: Effort {
+            refuted: task.effort.refuted.min(MOST_APART),
+            undecided: task.effort.undecided.min(1),
+            ..task.effort
+        },
+    };
+    let found = solve_stated(&apart, decide, bank, statements, assignments, aside)?;
+    Ok(found)
+}
+
+/// The same by what the constraints state.
+fn solve_stated<T: Theory, D: Decide<T>>(
+    task: &Task<T>,
+    decide: &mut D,
+    bank: Option<&Bank<T>>,
+    statements: Statements,
+    assignments: &mut Vec<Values<T>>,
+    aside: &mut Aside<T>,
+) -> Result<Option<(Bodies<T>, D::Proof)>, Want>
+    requires problem { ProblemFits T.Theory task.now.problem.now }
+    requires one { length task.now.problem.now.wanted ≡ 1 }
+    requires assigned { AreAssignedFor T.Theory task.now.problem.now assignments.old.items }
+    ensures assigned { OnOk result (AreAssignedFor T.Theory task.now.problem.now assignments.new.items) }
+    ensures found { IfOk result (IsFoundFor T.Theory D.Decide task.now.problem.now task.now.bound) }
+{
+    let mut learning = Learning::new(task, statements)?;
     learning.tell(task, assignments.as_slice())?;
     if let Some(found) = solve_given(task, decide, &mut learning, assignments, aside)? {
         return Ok(Some(found));

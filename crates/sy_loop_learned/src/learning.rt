@@ -35,17 +35,18 @@ pub(crate) struct Learning<T: Theory> {
     /// Formulas that weren't decided, and how many others failed without a counterexample.
     pub(crate) undecided: Vec<Term<T>>,
     pub(crate) failed: u32,
+    /// How many more formulas are tried.
+    pub(crate) left: u32,
     /// How the grammar writes formulas.
     pub(crate) way: Way,
 }
 
 impl<T: Theory> Learning<T> {
     /// The problem's own literals and clauses, and no points.
-    pub(crate) fn new(task: &Task<T>) -> Result<Learning<T>, Want>
+    pub(crate) fn new(task: &Task<T>, statements: Statements) -> Result<Learning<T>, Want>
         requires problem { ProblemFits T.Theory task.now.problem.now }
         requires one { length task.now.problem.now.wanted ≡ 1 }
     {
-        let statements = Statements::new(task.alloc, task.problem)?;
         let atoms = Atoms::new(&setting_of(task), &statements)?;
         let disjunction = disjunction_of(task, &atoms)?;
         let learner = Learner::new(task.alloc, disjunction.is_some());
@@ -60,6 +61,7 @@ impl<T: Theory> Learning<T> {
             inside: 0,
             undecided: Vec::new(task.alloc),
             failed: 0,
+            left: task.effort.refuted,
             way: Way {
                 conjunction: Word::Plain,
                 disjunction: disjunction.unwrap_or(Word::Plain),
@@ -161,7 +163,7 @@ impl<T: Theory> Learning<T> {
     /// Whether no more formulas are to be tried.
     pub(crate) fn is_spent(&self, task: &Task<T>) -> bool {
         let undecided = self.undecided.len() >= task.effort.undecided as usize;
-        self.is_over || undecided || self.failed >= MOST_FAILED
+        self.is_over || self.left == 0 || undecided || self.failed >= MOST_FAILED
     }
 
     /// Whether the formula is another truth than a point's label.

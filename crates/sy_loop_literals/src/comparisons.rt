@@ -1,4 +1,8 @@
 // Two terms, and how they compare.
+ghost use Rattle.std.specs.Prelude.{◌≡◌, ℤ, List, Bool, not, IfSome};
+ghost use Rattle.sy_loop_literals.specs.Saying.{says};
+ghost use Rattle.sy_loop_literals.specs.declared.tokens.Token.{Token};
+
 use crate::sums::{Kind, Sum, sum_of};
 use crate::tokens::{Class, Token, class_of, operands, part};
 use std::alloc::Global;
@@ -46,7 +50,9 @@ pub struct Compared<'a> {
 
 impl<'a> Compared<'a> {
     /// The relation of the same terms.
-    pub fn with(&self, relation: Relation) -> Compared<'a> {
+    pub fn with(&self, relation: Relation) -> Compared<'a>
+        ensures { result ≡ record self.now { relation = relation } }
+    {
         Compared {
             relation,
             order: self.order,
@@ -56,7 +62,9 @@ impl<'a> Compared<'a> {
     }
 
     /// The same relation of the terms turned round.
-    pub fn turned(&self) -> Compared<'a> {
+    pub fn turned(&self) -> Compared<'a>
+        ensures { result ≡ record self.now { first = self.now.second; second = self.now.first } }
+    {
         Compared {
             relation: self.relation,
             order: self.order,
@@ -66,7 +74,10 @@ impl<'a> Compared<'a> {
     }
 
     /// The negation.
-    pub fn negation(&self) -> Compared<'a> {
+    pub fn negation(&self) -> Compared<'a>
+        ensures { (value : List Token → ℤ) (at_most equal : ℤ → ℤ → Bool) →
+            says value at_most equal result ≡ not (says value at_most equal self.now) }
+    {
         match self.relation {
             Relation::Less => self.turned().with(Relation::AtMost),
             Relation::AtMost => self.turned().with(Relation::Less),
@@ -76,7 +87,11 @@ impl<'a> Compared<'a> {
     }
 
     /// The same; an equality, or its negation, with a constant or the later of two variables as its second term.
-    pub fn ordered(&self) -> Compared<'a> {
+    pub fn ordered(&self) -> Compared<'a>
+        ensures { (value : List Token → ℤ) (at_most equal : ℤ → ℤ → Bool) →
+            ((a b : ℤ) → equal a b ≡ equal b a) →
+            says value at_most equal result ≡ says value at_most equal self.now }
+    {
         let is_behind = match (self.first, self.second) {
             ([Token::Variable(a)], [Token::Variable(b)]) => a > b,
             ([Token::Constant(_, _)], _) => true,

@@ -1,4 +1,9 @@
 // Ways to write comparisons.
+ghost use Rattle.std.specs.Prelude.{◌≡◌, ◌++◌, ◌∷◌, [], OnOk};
+ghost use Rattle.sy_terms.specs.declared.op.Op.TheVariants.{Not};
+ghost use Rattle.sy_loop_literals.specs.Tables.{written_so};
+ghost use Rattle.sy_loop_literals.specs.declared.tokens.Token.TheVariants.{Apply};
+
 use crate::comparisons::{Compared, Order, Relation};
 use crate::sums::{Kind, Sum};
 use crate::tokens::{Token, plain_size};
@@ -87,12 +92,17 @@ impl Sides {
     }
 
     /// What was written.
-    pub fn written(&self) -> &[Token] {
+    pub fn written(&self) -> &[Token]
+        ensures { result.now ≡ self.now.written.items }
+    {
         self.written.as_slice()
     }
 
     /// Takes the terms as sides.
-    pub fn take(&mut self, compared: &Compared) -> Result<(), Want> {
+    pub fn take(&mut self, compared: &Compared) -> Result<(), Want>
+        ensures first { OnOk result (self.new.first.items ≡ compared.now.first.now) }
+        ensures second { OnOk result (self.new.second.items ≡ compared.now.second.now) }
+    {
         self.first.clear();
         self.first.extend_from_slice(compared.first)?;
         self.second.clear();
@@ -120,7 +130,12 @@ impl Sides {
     }
 
     /// Writes the comparison of the sides in this way.
-    pub fn write(&mut self, way: Way) -> Result<(), Want> {
+    pub fn write(&mut self, way: Way) -> Result<(), Want>
+        ensures written { OnOk result (self.new.written.items ≡
+            written_so way self.old.first.items self.old.second.items) }
+        ensures first { self.new.first ≡ self.old.first }
+        ensures second { self.new.second ≡ self.old.second }
+    {
         self.written.clear();
         if way.turned {
             self.written.extend_from_slice(self.second.as_slice())?;
@@ -137,14 +152,18 @@ impl Sides {
     }
 
     /// Writes the term.
-    pub fn write_term(&mut self, term: &[Token]) -> Result<(), Want> {
+    pub fn write_term(&mut self, term: &[Token]) -> Result<(), Want>
+        ensures { OnOk result (self.new.written.items ≡ term.now) }
+    {
         self.written.clear();
         self.written.extend_from_slice(term)?;
         Ok(())
     }
 
     /// Writes the negation of what was written.
-    pub fn negate(&mut self) -> Result<(), Want> {
+    pub fn negate(&mut self) -> Result<(), Want>
+        ensures { OnOk result (self.new.written.items ≡ self.old.written.items ++ Apply Not 1 ∷ []) }
+    {
         self.written.push(Token::Apply(Op::Not, 1))?;
         Ok(())
     }

@@ -1,4 +1,7 @@
 // Literals by number.
+ghost use Rattle.std.specs.Prelude.{◌≡◌, ◌<◌, ◌≤◌, ◌+◌, length, IfOk, IfSome, IsNone, OnOk, false};
+ghost use Rattle.sy_loop_literals.specs.Tables.{changed_at, said_in, with_hull, with_program};
+
 use crate::sums::{Kind, Sum};
 use crate::tokens::{Span, Token, part, term_key};
 use std::alloc::Global;
@@ -23,7 +26,9 @@ pub struct Traits {
 
 impl Traits {
     /// The traits of a literal that wasn't found to hold anywhere.
-    pub fn new(size: u32, program: bool, unequal: bool) -> Traits {
+    pub fn new(size: u32, program: bool, unequal: bool) -> Traits
+        ensures { result ≡ record { size = size; program = program; hull = false; unequal = unequal } }
+    {
         Traits {
             size,
             program,
@@ -59,7 +64,9 @@ pub struct Table {
 
 impl Table {
     /// No literals.
-    pub fn new(alloc: Global) -> Table {
+    pub fn new(alloc: Global) -> Table
+        ensures { length result.literals.items ≡ 0 }
+    {
         Table {
             literals: Vec::new(alloc),
             tokens: Vec::new(alloc),
@@ -68,12 +75,16 @@ impl Table {
     }
 
     /// The literals.
-    pub fn literals(&self) -> &[Literal] {
+    pub fn literals(&self) -> &[Literal]
+        ensures { result.now ≡ self.now.literals.items }
+    {
         self.literals.as_slice()
     }
 
     /// The tokens of the literal; none where there is no such literal.
-    pub fn said(&self, literal: usize) -> &[Token] {
+    pub fn said(&self, literal: usize) -> &[Token]
+        ensures { result.now ≡ said_in self.now literal }
+    {
         match self.literals.get(literal) {
             Some(found) => part(self.tokens.as_slice(), found.span),
             None => &[],
@@ -81,7 +92,9 @@ impl Table {
     }
 
     /// The literal of the comparison, where there is one.
-    pub fn find_form(&self, kind: Kind, sum: &Sum) -> Option<usize> {
+    pub fn find_form(&self, kind: Kind, sum: &Sum) -> Option<usize>
+        ensures { IfSome result (λ place. place < length self.now.literals.items) }
+    {
         let mut next = self.last.get(&sum.key(kind)).copied();
         for _ in 0..self.literals.len() {
             let place = next?;
@@ -97,7 +110,9 @@ impl Table {
     }
 
     /// The literal of the tokens, where there is one.
-    pub fn find(&self, said: &[Token]) -> Option<usize> {
+    pub fn find(&self, said: &[Token]) -> Option<usize>
+        ensures { IfSome result (λ place. place < length self.now.literals.items) }
+    {
         let mut next = self.last.get(&term_key(said)).copied();
         for _ in 0..self.literals.len() {
             let place = next?;
@@ -132,14 +147,23 @@ impl Table {
     }
 
     /// Notes that the literal is in the problem, where it is.
-    pub fn mark(&mut self, literal: usize, program: bool) {
+    pub fn mark(&mut self, literal: usize, program: bool)
+        ensures literals { self.new.literals.items ≡
+            changed_at (with_program program) self.old.literals.items literal }
+        ensures count { length self.new.literals.items ≡ length self.old.literals.items }
+        ensures tokens { self.new.tokens ≡ self.old.tokens }
+    {
         if let Some(found) = self.literals.get_mut(literal) {
             found.traits.program = found.traits.program || program;
         }
     }
 
     /// Notes that the literal holds at all points inside.
-    pub fn mark_hull(&mut self, literal: usize) {
+    pub fn mark_hull(&mut self, literal: usize)
+        ensures literals { self.new.literals.items ≡ changed_at with_hull self.old.literals.items literal }
+        ensures count { length self.new.literals.items ≡ length self.old.literals.items }
+        ensures tokens { self.new.tokens ≡ self.old.tokens }
+    {
         if let Some(found) = self.literals.get_mut(literal) {
             found.traits.hull = true;
         }
@@ -167,7 +191,12 @@ impl Table {
         said: &[Token],
         form: Option<(Kind, Sum)>,
         traits: Traits,
-    ) -> Result<Option<usize>, Want> {
+    ) -> Result<Option<usize>, Want>
+        ensures below { IfOk result (λ found. IfSome found (λ place. place < length self.new.literals.items)) }
+        ensures kept { length self.old.literals.items ≤ length self.new.literals.items }
+        ensures full { IfOk result (λ found. IsNone found → MOST_LITERALS ≤ length self.new.literals.items) }
+        ensures most { length self.old.literals.items ≤ MOST_LITERALS → length self.new.literals.items ≤ MOST_LITERALS }
+    {
         let (known, key) = match &form {
             Some((kind, sum)) => (self.find_form(*kind, sum), sum.key(*kind)),
             None => (self.find(said), term_key(said)),
@@ -181,7 +210,9 @@ impl Table {
     }
 
     /// Notes that the literal is in the problem, and writes it as said where that is smaller.
-    fn improve(&mut self, place: usize, said: &[Token], traits: Traits) -> Result<(), Want> {
+    fn improve(&mut self, place: usize, said: &[Token], traits: Traits) -> Result<(), Want>
+        ensures { length self.new.literals.items ≡ length self.old.literals.items }
+    {
         let Some(literal) = self.literals.get_mut(place) else {
             return Ok(());
         };
@@ -201,7 +232,11 @@ impl Table {
         form: Option<(Kind, Sum)>,
         traits: Traits,
         key: u64,
-    ) -> Result<(), Want> {
+    ) -> Result<(), Want>
+        ensures one { OnOk result (length self.new.literals.items ≡ length self.old.literals.items + 1) }
+        ensures kept { length self.old.literals.items ≤ length self.new.literals.items }
+        ensures most { length self.new.literals.items ≤ length self.old.literals.items + 1 }
+    {
         let place = self.literals.len();
         let span = span_behind(self.tokens.len(), said);
         self.tokens.extend_from_slice(said)?;

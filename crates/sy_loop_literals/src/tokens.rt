@@ -1,4 +1,7 @@
 // Terms as tokens: an operator stands behind the terms to which it is applied.
+ghost use Rattle.std.specs.Prelude.{◌≡◌};
+ghost use Rattle.sy_loop_literals.specs.Tables as spec;
+
 use crate::comparisons::relation_of;
 use sy_grammar_sizes::digits;
 use sy_terms::{Op, Sort};
@@ -23,8 +26,10 @@ pub struct Span {
     pub to: usize,
 }
 
-/// The tokens of the span.
-pub fn part(tokens: &[Token], span: Span) -> &[Token] {
+/// The tokens of the span; none where it doesn't lie among them.
+pub fn part(tokens: &[Token], span: Span) -> &[Token]
+    ensures { result.now ≡ spec.part tokens.now span }
+{
     if span.from <= span.to && span.to <= tokens.len() {
         &tokens[span.from..span.to]
     } else {
