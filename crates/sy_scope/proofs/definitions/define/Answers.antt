@@ -19,8 +19,8 @@ returns-in_err-definition-clause-step g c =
     let body = item_of c.args.body.now in
     let end = c.in_err-definition.field-0.0 in
     let read : ReadingFails end (definition_read context c.args.context.now.logic name c.args.arguments.now sort body) =
-        subst (λ logic. ReadingFails end (definition_read (declared_in context) logic name c.args.arguments.now sort body)) c.known-known.ensures.logic
-        (subst (λ known. ReadingFails end (definition_read known c.known-known.result.logic name c.args.arguments.now sort body)) c.known-known.ensures.known c.in_err-definition.ensures.read) in
+    subst (λ logic. ReadingFails end (definition_read (declared_in context) logic name c.args.arguments.now sort body)) c.known-known.ensures.logic
+    (subst (λ known. ReadingFails end (definition_read known c.known-known.result.logic name c.args.arguments.now sort body)) c.known-known.ensures.known c.in_err-definition.ensures.read) in
     fails _ c.from_residual.result end _ c.from_residual.ensures.1
     (define_fails context c.args.context.now.logic name c.args.arguments.now sort body end read)
 
@@ -41,8 +41,8 @@ returns-clause-step g c =
     let body = item_of c.args.body.now in
     let definition = definition_of g.T.Theory.denotes c.in_ok-definition.definition in
     let read : definition_read context c.args.context.now.logic name c.args.arguments.now sort body ≡ Ok definition =
-        subst (λ logic. definition_read (declared_in context) logic name c.args.arguments.now sort body ≡ Ok definition) c.known-known.ensures.logic
-        (subst (λ known. definition_read known c.known-known.result.logic name c.args.arguments.now sort body ≡ Ok definition) c.known-known.ensures.known c.in_ok-definition.ensures.read) in
+    subst (λ logic. definition_read (declared_in context) logic name c.args.arguments.now sort body ≡ Ok definition) c.known-known.ensures.logic
+    (subst (λ known. definition_read known c.known-known.result.logic name c.args.arguments.now sort body ≡ Ok definition) c.known-known.ensures.known c.in_ok-definition.ensures.read) in
     define_gives context c.args.context.now.logic name c.args.arguments.now sort body
     definition (context_of g.T.Theory.denotes c.add_definition.new.self) read c.in_ok-add_definition.ensures.step
 
