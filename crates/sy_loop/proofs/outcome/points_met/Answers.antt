@@ -10,4 +10,4 @@ pub returns-clause-right : goal.returns-clause-right
 returns-clause-right g c =
     let same : of_function c.args.known.points c.args.function ≡ tuples_of g.T.Theory.denotes c.of.result.now =
     get_or_from_slice_get c.args.known.points.tuples c.args.function (tuples_of g.T.Theory.denotes c.of.result.now) [] c.of.ensures.list in
-    rw (c.in_ok-tuples.ensures, ← same) c.requires.0
+    rw (c.in_ok-tuples.ensures, c.as_slice.ensures, ← same) c.requires.0

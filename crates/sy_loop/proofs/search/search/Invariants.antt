@@ -14,10 +14,10 @@ decreases-rounds g l = work l.limits (history_of g.T.Theory.denotes l.known.stor
 
 abbrev pub invariant-rounds : goal.invariant-rounds
 invariant-rounds g l = record {
-  known : IsKnown l.reach (question_of g.T.Theory.denotes l.problem) l.limits (history_of g.T.Theory.denotes l.known.stored) l.known.points;
+  known : IsKnown l.fn.reach (question_of g.T.Theory.denotes l.problem) l.limits (history_of g.T.Theory.denotes l.known.stored) l.known.points;
   room : length l.known.stored.items < l.limits.rounds;
   within : l.level ≤ l.limits.size;
-  done : AreDoneBelow l.reach (question_of g.T.Theory.denotes l.problem) (history_of g.T.Theory.denotes l.known.stored) l.known.points l.level;
-  plan : MatchOption l.plan (TriesNoTrees l.reach (question_of g.T.Theory.denotes l.problem)) (IsPlan g.T.Theory.denotes l.reach (question_of g.T.Theory.denotes l.problem));
+  done : AreDoneBelow l.fn.reach (question_of g.T.Theory.denotes l.problem) (history_of g.T.Theory.denotes l.known.stored) l.known.points l.level;
+  plan : MatchOption l.plan (TriesNoTrees l.fn.reach (question_of g.T.Theory.denotes l.problem)) (IsPlan g.T.Theory.denotes l.fn.reach (question_of g.T.Theory.denotes l.problem));
   carried : AreCarried g.T.Theory.owned g.T.Theory.denotes l.problem l.limits l.level l.banks.items;
 }
