@@ -1,22 +1,20 @@
 // A solver of queries of linear arithmetic over the integers.
 #![tactic(auto)]
 
+mod aligning;
 mod back;
 mod choosing;
-mod conflict;
 mod cut;
 mod decider;
 mod fork;
 mod leaf;
 mod lowered;
-mod measures;
+mod near;
 mod open;
 mod plan;
-mod rounds;
 mod search;
 mod spent;
 mod state;
-mod subset;
 mod way;
 
 pub use decider::IntDecide;

@@ -1,0 +1,16 @@
+use Rattle.std.proofs.Common.{◌<◌, ◌^◌, length, sym, subst, ◌∙◌, ap}
+use Rattle.sy_intsolve_paths_laws.specs.Paths.{IsPath}
+use Rattle.sy_intsolve.specs.Telling.{IsNear}
+use Rattle.sy_intsolve.proofs.open.told_by_kept.Goals as goal
+
+pub by_kept-requires : goal.by_kept-requires
+by_kept-requires c = record {
+  few = subst (λ vars. length vars < 2 ^ 31) (sym c.as_slice-vars.ensures) c.requires.asked.vars;
+  path = subst (λ vars. IsPath vars c.as_slice-facts.result.now) (sym c.as_slice-vars.ensures) (subst (IsPath c.args.query.now.vars) (sym c.as_slice-facts.ensures.value) c.requires.path);
+  vars = c.requires.vars ∙ ap length (sym c.as_slice-vars.ensures);
+}
+
+pub returns-clause-near : goal.returns-clause-near
+returns-clause-near c =
+    subst (λ vars. IsNear vars c.args.way.now.facts.items c.in_ok-told.told) c.as_slice-vars.ensures
+    (subst (λ facts. IsNear c.as_slice-vars.result.now facts c.in_ok-told.told) c.as_slice-facts.ensures.value c.in_ok-told.ensures.near)
