@@ -1,12 +1,11 @@
 // Learning from a conflict.
-ghost use Rattle.std.specs.Prelude.{◌≡◌, ◌<◌, ◌≤◌, ℕ, Bool, true, not, Some, None, [], OnOk, IfOk, MatchBool, length, vec_len};
-ghost use Rattle.sy_clauses.specs.Clauses.{known_clauses, line_clause, IsEmpty};
-ghost use Rattle.sy_clauses.specs.Marking.{clause_of, MarksAreListed};
-ghost use Rattle.sy_cdcl.specs.Trails.{kept_values, entries_values, TrailIsReady, LevelsSettled};
+ghost use Rattle.std.specs.Prelude.{◌≡◌, ◌<◌, ◌≤◌, Some, None, [], IfOk, MatchBool, length, vec_len};
+ghost use Rattle.sy_clauses.specs.Clauses.{known_clauses};
+ghost use Rattle.sy_clauses.specs.Marking.{clause_of};
+ghost use Rattle.sy_cdcl.specs.Trails.{entries_values, TrailIsReady, LevelsSettled};
 ghost use Rattle.sy_clauses.specs.New.{IsUnit};
-ghost use Rattle.sy_cdcl.specs.Status.{IsConflict};
 ghost use Rattle.sy_cdcl_literals.specs.Falsified.{SomeFalsified, NoneFalsified};
-ghost use Rattle.sy_cdcl.specs.Conflicts.{IsLearned, OpenAtLevels, value_below, IsTakenBack, LastFits};
+ghost use Rattle.sy_cdcl.specs.Conflicts.{StandsAtConflict, Teaches, OpenAtLevels, value_below, IsTakenBack, LastFits};
 
 use crate::order::Order;
 use crate::trail::Trail;
@@ -52,18 +51,10 @@ fn resolve_back(
     steps: &mut Seq<Step>,
     conflict: u32,
 ) -> Result<Option<Lit>, Want>
-    requires ready { TrailIsReady (known_clauses cnf.now.clauses derived.now) trail.now }
-    requires levels { LevelsSettled (known_clauses cnf.now.clauses derived.now) trail.now }
-    requires conflict { IsConflict (known_clauses cnf.now.clauses derived.now)
-        (kept_values trail.now.values.items) conflict }
-    requires empty { IsEmpty (clause_of marks.old) }
-    requires listed { MarksAreListed marks.old }
+    requires conflict { StandsAtConflict (known_clauses cnf.now.clauses derived.now) trail.now marks.old conflict }
     requires new { steps.old ≡ [] }
-    ensures line { OnOk result (line_clause (known_clauses cnf.now.clauses derived.now)
-        (record { first = conflict; steps = steps.new }) ≡ Some (clause_of marks.new)) }
-    ensures learned { IfOk result (λ last. IsLearned trail.now (clause_of marks.new) last) }
-    ensures vars { OnOk result ((v : ℕ) (s : Bool) → clause_of marks.new v s ≡ true → v < vec_len trail.now.values) }
-    ensures listed { OnOk result (MarksAreListed marks.new) }
+    ensures { IfOk result (λ last. Teaches (known_clauses cnf.now.clauses derived.now) trail.now marks.new
+        (record { line = record { first = conflict; steps = steps.new }; last = last })) }
 {
     let Some(clause) = clause_at(cnf, derived, conflict) else {
         return Ok(None);
@@ -106,17 +97,8 @@ pub fn analyze(
     marks: &mut Marks,
     conflict: u32,
 ) -> Result<Learned, Want>
-    requires ready { TrailIsReady (known_clauses cnf.now.clauses derived.now) trail.now }
-    requires levels { LevelsSettled (known_clauses cnf.now.clauses derived.now) trail.now }
-    requires conflict { IsConflict (known_clauses cnf.now.clauses derived.now)
-        (kept_values trail.now.values.items) conflict }
-    requires empty { IsEmpty (clause_of marks.old) }
-    requires listed { MarksAreListed marks.old }
-    ensures line { IfOk result (λ r. line_clause (known_clauses cnf.now.clauses derived.now) r.line ≡
-        Some (clause_of marks.new)) }
-    ensures learned { IfOk result (λ r. IsLearned trail.now (clause_of marks.new) r.last) }
-    ensures vars { OnOk result ((v : ℕ) (s : Bool) → clause_of marks.new v s ≡ true → v < vec_len trail.now.values) }
-    ensures listed { OnOk result (MarksAreListed marks.new) }
+    requires conflict { StandsAtConflict (known_clauses cnf.now.clauses derived.now) trail.now marks.old conflict }
+    ensures { IfOk result (Teaches (known_clauses cnf.now.clauses derived.now) trail.now marks.new) }
 {
     let mut steps = Seq::new(alloc);
     let last = resolve_back(trail, cnf, derived, marks, &mut steps, conflict)?;

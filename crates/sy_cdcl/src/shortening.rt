@@ -1,11 +1,10 @@
 // Leaving out of a learned clause the literals that its others imply.
-ghost use Rattle.std.specs.Prelude.{◌≡◌, ◌<◌, ℕ, Bool, true, Some, OnOk, IfOk, IfSome, MatchBool, vec_len};
-ghost use Rattle.sy_clauses.specs.Clauses.{literals, known_clauses, line_clause, IsEmpty};
+ghost use Rattle.std.specs.Prelude.{◌≡◌, ◌<◌, true, Some, OnOk, IfOk, IfSome, MatchBool};
+ghost use Rattle.sy_clauses.specs.Clauses.{literals, known_clauses, line_clause};
 ghost use Rattle.sy_clauses.specs.Marking.{clause_of, MarksAreListed};
 ghost use Rattle.sy_clauses.specs.New.{IsUnit};
-ghost use Rattle.sy_cdcl.specs.Trails.{kept_values, level_start, TrailIsReady, LevelsSettled};
-ghost use Rattle.sy_cdcl.specs.Status.{IsConflict};
-ghost use Rattle.sy_cdcl.specs.Conflicts.{IsLearned, value_below};
+ghost use Rattle.sy_cdcl.specs.Trails.{level_start, TrailIsReady};
+ghost use Rattle.sy_cdcl.specs.Conflicts.{StandsAtConflict, Teaches, value_below};
 ghost use Rattle.sy_cdcl.specs.Short.{IsCovered, HasMore, IsShort, IsWithin};
 
 use crate::analysis::{Learned, analyze};
@@ -92,19 +91,10 @@ pub fn conclude(
     marks: &mut Marks,
     conflict: u32,
 ) -> Result<Learned, Want>
-    requires ready { TrailIsReady (known_clauses cnf.now.clauses derived.now) trail.now }
-    requires levels { LevelsSettled (known_clauses cnf.now.clauses derived.now) trail.now }
-    requires conflict { IsConflict (known_clauses cnf.now.clauses derived.now)
-        (kept_values trail.now.values.items) conflict }
-    requires empty { IsEmpty (clause_of marks.old) }
-    requires listed { MarksAreListed marks.old }
-    ensures line { IfOk result (λ r. line_clause (known_clauses cnf.now.clauses derived.now) r.line ≡
-        Some (clause_of marks.new)) }
-    ensures learned { IfOk result (λ r. IsLearned trail.now (clause_of marks.new) r.last) }
+    requires conflict { StandsAtConflict (known_clauses cnf.now.clauses derived.now) trail.now marks.old conflict }
+    ensures taught { IfOk result (Teaches (known_clauses cnf.now.clauses derived.now) trail.now marks.new) }
     ensures short { IfOk result (λ r. IfSome r.last (λ _. IsShort (known_clauses cnf.now.clauses derived.now)
         trail.now.entries.items 0 (level_start trail.now.starts.items) (clause_of marks.new))) }
-    ensures vars { OnOk result ((v : ℕ) (s : Bool) → clause_of marks.new v s ≡ true → v < vec_len trail.now.values) }
-    ensures listed { OnOk result (MarksAreListed marks.new) }
 {
     let learned = analyze(alloc, trail, cnf, derived, marks, conflict)?;
     let Some(literal) = learned.last else {

@@ -19,9 +19,9 @@ returns-in_default-clause-ends c =
     let clause = clause_of c.conclude.new.marks in
     let line : line_clause known c.in_ok-taught.taught.line ≡ Some clause =
     subst (λ (ds : List (List Lit)). line_clause (known_clauses cnf.clauses ds) c.in_ok-taught.taught.line ≡ Some clause)
-    c.deref.ensures.value c.in_ok-taught.ensures.line in
+    c.deref.ensures.value c.in_ok-taught.ensures.taught.line in
     let empty : IsLearned s.trail clause None =
-    subst (λ (o : Option Lit). IsLearned s.trail clause o) c.in_default.is c.in_ok-taught.ensures.learned in
+    subst (λ (o : Option Lit). IsLearned s.trail clause o) c.in_default.is c.in_ok-taught.ensures.taught.learned in
     subst (λ (ls : List Line). Refutes cnf record { lines = ls }) (sym c.in_ok-push.ensures.ok)
     (refutes_more cnf s.lines c.in_ok-taught.taught.line known clause c.requires.sound.numbered line empty)
 
@@ -34,9 +34,9 @@ returns-clause-ends c =
     let clause = clause_of c.conclude.new.marks in
     let line : line_clause known c.in_ok-taught.taught.line ≡ Some clause =
     subst (λ (ds : List (List Lit)). line_clause (known_clauses cnf.clauses ds) c.in_ok-taught.taught.line ≡ Some clause)
-    c.deref.ensures.value c.in_ok-taught.ensures.line in
+    c.deref.ensures.value c.in_ok-taught.ensures.taught.line in
     let taught : IsLearned s.trail clause (Some c.in-Some.literal) =
-    subst (λ (o : Option Lit). IsLearned s.trail clause o) c.in-Some.is c.in_ok-taught.ensures.learned in
+    subst (λ (o : Option Lit). IsLearned s.trail clause o) c.in-Some.is c.in_ok-taught.ensures.taught.learned in
     let new : IsNewClause known clause =
     learned_new known s.trail clause c.in-Some.literal.var c.in-Some.literal.positive taught.0 i.levels taught.1 in
     let grown : known_clauses cnf.clauses c.keep.new.derived.items ≡ known ++ clause ∷ [] =
@@ -46,7 +46,7 @@ returns-clause-ends c =
     let pushed = c.in_ok-push-2.ensures.ok in
     let before = i.all in
     let vars : (v : ℕ) (b : Bool) → clause v b ≡ true → v < cnf.vars =
-    λ v b h. (let w = c.in_ok-taught.ensures.vars v b h in omega (arith, w, before)) in
+    λ v b h. (let w = c.in_ok-taught.ensures.taught.vars v b h in omega (arith, w, before)) in
     let numbered : all_clauses cnf record { lines = c.push-2.new.self } ≡ Some (known ++ clause ∷ []) =
     subst (λ (ls : List Line). all_clauses cnf record { lines = ls } ≡ Some (known ++ clause ∷ [])) (sym pushed)
     (numbering_more (map literals cnf.clauses) s.lines c.in_ok-taught.taught.line known clause i.numbered line) in
@@ -92,3 +92,16 @@ returns-in_err-keep-clause-lines c = IfOk-from_err c.from_residual-in_err-keep.r
 
 pub returns-in_err-keep-clause-ends : goal.returns-in_err-keep-clause-ends
 returns-in_err-keep-clause-ends c = IfOk-from_err c.from_residual-in_err-keep.result _ c.from_residual-in_err-keep.ensures.0
+
+pub conclude-requires : goal.conclude-requires
+conclude-requires c =
+    let i = c.requires.sound in
+    record {
+      conflict = rw c.deref.ensures.value (record {
+        ready = i.ready;
+        levels = i.levels;
+        false = c.requires.conflict;
+        empty = i.empty;
+        listed = i.listed;
+      });
+    }
