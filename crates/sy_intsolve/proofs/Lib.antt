@@ -1,4 +1,4 @@
-pub mod Chosen
+pub mod Aligning
 pub mod Ends
 pub mod Fitting
 pub mod Lists

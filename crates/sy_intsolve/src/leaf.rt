@@ -1,5 +1,5 @@
 // A turn at an open leaf.
-ghost use Rattle.std.specs.Prelude.{◌≡◌, IfOk, IfSome};
+ghost use Rattle.std.specs.Prelude.{◌≡◌, length, IfOk, IfSome};
 ghost use Rattle.sy_linear_known.specs.declared.answer.Known.TheVariants as known;
 ghost use Rattle.sy_linear_known.specs.Right.{KnownIsRight};
 ghost use Rattle.sy_linear_known.specs.Seen.{query_known};
@@ -13,9 +13,9 @@ ghost use Rattle.sy_intsolve.specs.States.{IsTurn, room_open};
 use crate::choosing::guessed_test;
 use crate::cut::{cut_at, under};
 use crate::fork::{enter, goes_left};
+use crate::near::Near;
 use crate::open::{broken, known_at, near, place_at, point_at};
 use crate::plan::Plan;
-use crate::rounds::Near;
 use crate::spent::{model, spent_known, spent_nodes, spent_pivots, spent_range};
 use crate::state::{State, Turn};
 use crate::way::Way;
@@ -28,6 +28,7 @@ use sy_meaning_integers::IntTheory;
 use sy_query_base::Query;
 use sy_seq::{Seq, Want};
 use sy_simplex::{Ended, Feasible, Tableau};
+use sy_simplex_kept::KeptTableau;
 
 /// The fork at the end of the way, where the tree may have an inner node more; else what shows that it may not.
 fn grow(
@@ -219,8 +220,8 @@ fn opened(
     }
 }
 
-/// A turn at an open leaf, with a point of its path where one is kept: where few of the path's facts refute it, they
-/// close the leaf.
+/// A turn at an open leaf, with a point of its path where one is kept: where the kept tableau refutes
+/// the path, this closes the leaf.
 pub(crate) fn look(
     alloc: Global,
     query: &Query<IntTheory>,
@@ -228,14 +229,17 @@ pub(crate) fn look(
     guide: &mut Guide,
     way: Way,
     point: Option<Seq<Frac>>,
+    kept: &mut KeptTableau,
 ) -> Result<Turn, Want>
     requires asked { IsNumberedQuery (linear_query_of query.now) }
     requires leaf { IsLeaf plan.now.order (linear_query_of query.now) plan.now.limits.nodes way }
-    requires kept { IfSome point (IsPointOf query.now.vars way.facts.items) }
-    ensures { IfOk result
+    requires point { IfSome point (IsPointOf query.now.vars way.facts.items) }
+    requires vars { kept.old.vars ≡ length query.now.vars }
+    ensures turn { IfOk result
         (IsTurn plan.now.order (linear_query_of query.now) plan.now.limits (room_open plan.now.limits.nodes way)) }
+    ensures vars { kept.new.vars ≡ kept.old.vars }
 {
-    let told = near(alloc, query, plan.limits.pivots, &way, point)?;
+    let told = near(alloc, query, plan.limits.pivots, &way, point, kept)?;
     match told {
         Near::Point(here) => opened(alloc, query, plan, guide, way, Some(here)),
         Near::Conflict(multipliers) => {

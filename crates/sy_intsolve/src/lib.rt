@@ -1,26 +1,25 @@
 // A solver of queries of linear arithmetic over the integers.
 #![tactic(auto)]
 
+mod aligning;
 mod back;
 mod choosing;
-mod conflict;
 mod cut;
 mod decider;
 mod fork;
 mod leaf;
 mod lowered;
-mod measures;
+mod near;
 mod open;
 mod plan;
-mod rounds;
+mod queries;
 mod search;
 mod spent;
 mod state;
-mod subset;
 mod way;
 
 pub use decider::IntDecide;
+pub use queries::fits;
 pub use search::solve_query;
 pub use sy_intsolve_cuts::{IntRange, IntSpent};
 pub use sy_linear_known::Tree;
-pub use sy_query::fits;

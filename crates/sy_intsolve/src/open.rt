@@ -1,5 +1,5 @@
 // What is known of a path, and a point of it.
-ghost use Rattle.std.specs.Prelude.{◌≡◌, IfOk, IfSome};
+ghost use Rattle.std.specs.Prelude.{◌≡◌, length, IfOk, IfSome};
 ghost use Rattle.sy_linear_known.specs.Right.{KnownIsRight, IsMisfit};
 ghost use Rattle.sy_linear_known.specs.Seen.{query_known};
 ghost use Rattle.sy_linear_known.specs.Stored.{linear_query_of};
@@ -8,7 +8,7 @@ ghost use Rattle.sy_intsolve_cuts.specs.Points.{IsPointOf, TellsPlace};
 ghost use Rattle.sy_intsolve.specs.Telling.{IsNear};
 ghost use Rattle.sy_intsolve.specs.Ways.{IsNumberedQuery, IsBrokenIn, TellsPoint};
 
-use crate::rounds::{Near, by_few_facts};
+use crate::near::{Near, by_kept};
 use crate::way::Way;
 use std::alloc::Global;
 use sy_frac::Frac;
@@ -18,6 +18,7 @@ use sy_meaning_integers::IntTheory;
 use sy_query_base::Query;
 use sy_seq::{Seq, Want};
 use sy_simplex::{Ended, Feasible};
+use sy_simplex_kept::KeptTableau;
 
 /// What the way's facts tell of the query.
 pub(crate) fn known_at(alloc: Global, query: &Query<IntTheory>, way: &Way) -> Result<Known, Want>
@@ -51,47 +52,46 @@ pub(crate) fn place_at(
     Ok(end)
 }
 
-/// The most facts of which the simplex method takes all at once.
-const FEW: usize = 48;
-
-/// A point of the way's path, or multipliers that refute it, where few of its facts tell; of a path of few facts,
-/// nothing.
-fn told_by_few(
+/// A point of the way's path, or multipliers that refute it, where the kept tableau tells one.
+fn told_by_kept(
     alloc: Global,
     query: &Query<IntTheory>,
     pivots: u32,
     way: &Way,
+    kept: &mut KeptTableau,
 ) -> Result<Near, Want>
     requires asked { IsNumberedQuery (linear_query_of query.now) }
     requires path { IsPath query.now.vars way.now.facts.items }
-    ensures { IfOk result (IsNear query.now.vars way.now.facts.items) }
+    requires vars { kept.old.vars ≡ length query.now.vars }
+    ensures near { IfOk result (IsNear query.now.vars way.now.facts.items) }
+    ensures vars { kept.new.vars ≡ kept.old.vars }
 {
     let vars = query.vars.as_slice();
     let facts = way.facts.as_slice();
-    if facts.len() <= FEW {
-        return Ok(Near::Unknown);
-    }
-    let told = by_few_facts(alloc, vars, facts, pivots)?;
+    let told = by_kept(alloc, vars, facts, pivots, kept)?;
     Ok(told)
 }
 
-/// The kept point of the way's path, or else what few of its facts tell.
+/// The kept point of the way's path, or else what the kept tableau tells.
 pub(crate) fn near(
     alloc: Global,
     query: &Query<IntTheory>,
     pivots: u32,
     way: &Way,
     point: Option<Seq<Frac>>,
+    kept: &mut KeptTableau,
 ) -> Result<Near, Want>
     requires asked { IsNumberedQuery (linear_query_of query.now) }
     requires path { IsPath query.now.vars way.now.facts.items }
-    requires kept { IfSome point (IsPointOf query.now.vars way.now.facts.items) }
-    ensures { IfOk result (IsNear query.now.vars way.now.facts.items) }
+    requires point { IfSome point (IsPointOf query.now.vars way.now.facts.items) }
+    requires vars { kept.old.vars ≡ length query.now.vars }
+    ensures near { IfOk result (IsNear query.now.vars way.now.facts.items) }
+    ensures vars { kept.new.vars ≡ kept.old.vars }
 {
     match point {
         Some(point) => Ok(Near::Point(point)),
         None => {
-            let told = told_by_few(alloc, query, pivots, way)?;
+            let told = told_by_kept(alloc, query, pivots, way, kept)?;
             Ok(told)
         }
     }

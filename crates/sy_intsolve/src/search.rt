@@ -1,5 +1,5 @@
 // The search.
-ghost use Rattle.std.specs.Prelude.{◌≡◌, IfOk};
+ghost use Rattle.std.specs.Prelude.{◌≡◌, length, IfOk};
 ghost use Rattle.sy_linear_known.specs.Stored.{linear_query_of};
 ghost use Rattle.sy_intsolve.specs.Ways.{IsNumberedQuery};
 ghost use Rattle.sy_intsolve.specs.States.{IsState, IsTurn, nodes_left, is_spent, IsSearchEnd, AnswersQuery};
@@ -16,6 +16,7 @@ use sy_linear_known::Tree;
 use sy_meaning_integers::IntTheory;
 use sy_query_base::{Limits, Query, Verdict};
 use sy_seq::Want;
+use sy_simplex_kept::KeptTableau;
 
 /// A turn of the search.
 fn next_turn(
@@ -23,21 +24,45 @@ fn next_turn(
     query: &Query<IntTheory>,
     plan: &Plan,
     guide: &mut Guide,
+    kept: &mut KeptTableau,
     state: State,
 ) -> Result<Turn, Want>
     requires asked { IsNumberedQuery (linear_query_of query.now) }
     requires state { IsState plan.now.order (linear_query_of query.now) plan.now.limits.nodes state }
-    ensures { IfOk result
+    requires vars { kept.old.vars ≡ length query.now.vars }
+    ensures turn { IfOk result
         (IsTurn plan.now.order (linear_query_of query.now) plan.now.limits (nodes_left plan.now.limits.nodes state)) }
+    ensures vars { kept.new.vars ≡ kept.old.vars }
 {
     match state {
-        State::Open(way, point) => look(alloc, query, plan, guide, way, point),
+        State::Open(way, point) => look(alloc, query, plan, guide, way, point, kept),
         State::Closed(way, tree) => back(alloc, query, way, tree),
     }
 }
 
-/// The search's end: a tree that refutes the query, an assignment that satisfies it, or where a budget was met, the
-/// tree so far.
+/// The search's end by a tableau that is kept: a tree that refutes the query, an assignment that satisfies it, or where
+/// a budget was met, the tree so far.
+fn search_over(
+    alloc: Global,
+    query: &Query<IntTheory>,
+    plan: &Plan,
+    guide: &mut Guide,
+    kept: &mut KeptTableau,
+) -> Result<Verdict<IntTheory, Tree, IntSpent>, Want>
+    requires asked { IsNumberedQuery (linear_query_of query.now) }
+    requires vars { kept.old.vars ≡ length query.now.vars }
+    ensures { IfOk result (IsSearchEnd plan.now.order (linear_query_of query.now) plan.now.limits) }
+{
+    let mut state = State::Open(Way::new(alloc), None);
+    loop {
+        match next_turn(alloc, query, plan, guide, kept, state)? {
+            Turn::On(next) => state = next,
+            Turn::Over(verdict) => return Ok(verdict),
+        }
+    }
+}
+
+/// The search's end.
 fn search(
     alloc: Global,
     query: &Query<IntTheory>,
@@ -47,13 +72,8 @@ fn search(
     requires asked { IsNumberedQuery (linear_query_of query.now) }
     ensures { IfOk result (IsSearchEnd plan.now.order (linear_query_of query.now) plan.now.limits) }
 {
-    let mut state = State::Open(Way::new(alloc), None);
-    loop {
-        match next_turn(alloc, query, plan, guide, state)? {
-            Turn::On(next) => state = next,
-            Turn::Over(verdict) => return Ok(verdict),
-        }
-    }
+    let mut kept = KeptTableau::new(alloc, query.vars.len() as u32);
+    search_over(alloc, query, plan, guide, &mut kept)
 }
 
 /// Whether a budget was met.

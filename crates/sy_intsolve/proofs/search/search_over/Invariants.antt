@@ -1,6 +1,6 @@
 use Rattle.sy_linear_known.specs.Stored.{linear_query_of}
 use Rattle.sy_intsolve.specs.States.{IsState, nodes_left}
-use Rattle.sy_intsolve.proofs.search.search.Given as goal
+use Rattle.sy_intsolve.proofs.search.search_over.Given as goal
 
 abbrev pub invariant-loop-next : goal.invariant-loop-next
 invariant-loop-next l = IsState l.plan.order (linear_query_of l.query) l.plan.limits.nodes l.state

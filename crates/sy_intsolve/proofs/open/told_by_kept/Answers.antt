@@ -1,10 +1,10 @@
 use Rattle.std.proofs.Common.{◌<◌, ◌^◌, length, sym, subst}
 use Rattle.sy_intsolve_paths_laws.specs.Paths.{IsPath}
 use Rattle.sy_intsolve.specs.Telling.{IsNear}
-use Rattle.sy_intsolve.proofs.open.told_by_few.Goals as goal
+use Rattle.sy_intsolve.proofs.open.told_by_kept.Goals as goal
 
-pub by_few_facts-requires : goal.by_few_facts-requires
-by_few_facts-requires c = record {
+pub by_kept-requires : goal.by_few_facts-requires
+by_kept-requires c = record {
   few = subst (λ vars. length vars < 2 ^ 31) (sym c.as_slice-vars.ensures) c.requires.asked.vars;
   path = subst (λ vars. IsPath vars c.as_slice-facts.result.now) (sym c.as_slice-vars.ensures) (subst (IsPath c.args.query.now.vars) (sym c.as_slice-facts.ensures.value) c.requires.path);
 }

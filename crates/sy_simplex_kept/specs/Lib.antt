@@ -1,0 +1,2 @@
+pub mod Tableaus
+pub mod Telling
