@@ -17,14 +17,16 @@ use Rattle.sy_intsolve_cuts.specs.Points.{IsPointOf, TellsPlace}
 use Rattle.sy_intsolve_cuts.specs.declared.fork.Fork.{Fork}
 use Rattle.sy_intsolve_cuts.specs.declared.fork.Fork.TheVariants as forks
 use Rattle.sy_intsolve_cuts.specs.declared.step.Order.{Order}
+use Rattle.sy_intsolve_cuts.specs.declared.step.Order.TheVariants.{First}
 use Rattle.sy_intsolve_cuts.specs.Growing.{IsFork}
+use Rattle.sy_intsolve_cuts.proofs.Places.{stands-point}
 use Rattle.sy_intsolve.specs.Ways.{HasSides, CanTurn, TellsPoint}
 
-pub place-moved : (vars ws : List Sort) (path facts : List Fact) (pivots : ℕ) (answer : Feasible) → ws ≡ vars → facts ≡ path → TellsPlace ws facts pivots answer → TellsPlace vars path pivots answer
+pub place-moved : (vars ws : List Sort) (path facts : List Fact) (pivots : ℕ) (answer : Feasible) → ws ≡ vars → facts ≡ path → TellsPlace First ws facts pivots answer → TellsPlace First vars path pivots answer
 place-moved vars ws path facts pivots answer e f t =
-    subst (λ v. TellsPlace v path pivots answer) e (subst (λ p. TellsPlace ws p pivots answer) f t)
+    subst (λ v. TellsPlace First v path pivots answer) e (subst (λ p. TellsPlace First ws p pivots answer) f t)
 
-pub place-point : (vars : List Sort) (path : List Fact) (pivots : ℕ) (answer : Feasible) → TellsPlace vars path pivots answer → TellsPoint vars path pivots answer
+pub place-point : (vars : List Sort) (path : List Fact) (pivots : ℕ) (answer : Feasible) → TellsPlace First vars path pivots answer → TellsPoint vars path pivots answer
 place-point vars path pivots (Point p) s = s.at
 place-point vars path pivots (Conflict ms) s = s
 place-point vars path pivots (Pivots run) s = s
@@ -33,7 +35,7 @@ place-point vars path pivots (Range run) s = s
 -- the point of a fork is one of the path
 pub fork-at : (order : Order) (q : LinearQuery) (path : List Fact) (fork : Fork) (p : List Fraction) → IsFork order q path fork p → IsPointOf q.vars path p
 fork-at order q path (forks.Split t) p h = h.2
-fork-at order q path (forks.Branch i k) p h = h.2.at
+fork-at order q path (forks.Branch i k) p h = stands-point order q.vars path p h.2
 
 pub has_sides : (vars : List Sort) (path : List Fact) (fork : Fork) → CanTurn vars path fork → HasSides vars fork
 has_sides vars path (forks.Split t) c = (c.suits, c.fits)

@@ -9,7 +9,7 @@ use Rattle.sy_linear_known.specs.declared.path.Fact.TheVariants.{AtLeast}
 use Rattle.sy_linear_known.specs.declared.answer.Known.TheVariants as known
 use Rattle.sy_intsolve_paths_laws.specs.Paths.{Suit, IsPath}
 use Rattle.sy_intsolve_paths_laws.proofs.Paths.{path-none, path-form}
-use Rattle.sy_intsolve_cuts.specs.Points.{IsCornerOf}
+use Rattle.sy_intsolve_cuts.specs.Points.{StandsAt}
 use Rattle.sy_intsolve_cuts.specs.declared.choosing.Rounding.{Rounding}
 use Rattle.sy_intsolve_cuts.specs.Cuts.{IsCutBy}
 use Rattle.sy_intsolve_cuts.specs.declared.fork.Fork.{Fork}
@@ -107,8 +107,8 @@ grown-room nodes way next s i l =
     omega (arith, w, n, e)
 
 -- ---- a cut is made
-pub cut-layer : (order : Order) (q : LinearQuery) (path : List Fact) (p : List Fraction) (r : Rounding) → query_known q path ≡ known.True → IsCornerOf q.vars path p → IsCutBy q.vars path p r → IsLayer order q path (Under r.multipliers (pos 1) p) (AtLeast r.form)
-cut-layer order q path p r k c f = (r.form, (record { known = k; corner = c; cut = f.cut; below = f.below; broken = f.broken }, refl))
+pub cut-layer : (order : Order) (q : LinearQuery) (path : List Fact) (p : List Fraction) (r : Rounding) → query_known q path ≡ known.True → StandsAt order q.vars path p → IsCutBy q.vars path p r → IsLayer order q path (Under r.multipliers (pos 1) p) (AtLeast r.form)
+cut-layer order q path p r k c f = (r.form, (record { known = k; stands = c; cut = f.cut; below = f.below; broken = f.broken }, refl))
 
 pub cut-grown : (order : Order) (q : LinearQuery) (nodes : ℕ) (way next : Way) (p : List Fraction) (r : Rounding) (step : Step) → IsLeaf order q nodes way → IsLayer order q way.facts.items (Under r.multipliers (pos 1) p) (AtLeast r.form) → Suit q.vars (AtLeast r.form) → layer_of step ≡ Under r.multipliers (pos 1) p → next.facts.items ≡ way.facts.items ++ AtLeast r.form ∷ [] → next.steps.items ≡ way.steps.items ++ step ∷ [] → next.inner ≡ way.inner + 1 → way.inner < nodes → IsLeaf order q nodes next
 cut-grown order q nodes way next p r step l y u e f s i n = record {

@@ -3,7 +3,7 @@ ghost use Rattle.std.specs.Prelude.{◌≡◌, IfOk};
 ghost use Rattle.sy_linear_known.specs.declared.answer.Known.TheVariants as known;
 ghost use Rattle.sy_linear_known.specs.Seen.{query_known};
 ghost use Rattle.sy_linear_known.specs.Stored.{linear_query_of};
-ghost use Rattle.sy_intsolve_cuts.specs.Points.{IsCornerOf};
+ghost use Rattle.sy_intsolve_cuts.specs.Points.{StandsAt};
 ghost use Rattle.sy_intsolve_cuts.specs.Cuts.{AllFound, IsCutBy};
 ghost use Rattle.sy_intsolve.specs.Ways.{IsNumberedQuery, IsLeaf};
 ghost use Rattle.sy_intsolve.specs.States.{IsTurn, room_open};
@@ -52,7 +52,7 @@ pub(crate) fn cut_at(
     };
     let vars = query.vars.as_slice();
     let facts = way.facts.as_slice();
-    let found = best(alloc, vars, facts, point, &tableau)?;
+    let found = best(alloc, vars, facts, point, &tableau, None)?;
     Ok(found)
 }
 
@@ -68,7 +68,7 @@ pub(crate) fn under(
 ) -> Result<Turn, Want>
     requires leaf { IsLeaf plan.now.order (linear_query_of query.now) plan.now.limits.nodes way }
     requires known { query_known (linear_query_of query.now) way.facts.items ≡ known.True }
-    requires corner { IsCornerOf query.now.vars way.facts.items point }
+    requires stands { StandsAt plan.now.order query.now.vars way.facts.items point }
     requires found { IsCutBy query.now.vars way.facts.items point rounding }
     ensures { IfOk result
         (IsTurn plan.now.order (linear_query_of query.now) plan.now.limits (room_open plan.now.limits.nodes way)) }

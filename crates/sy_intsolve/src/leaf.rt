@@ -4,7 +4,7 @@ ghost use Rattle.sy_linear_known.specs.declared.answer.Known.TheVariants as know
 ghost use Rattle.sy_linear_known.specs.Right.{KnownIsRight};
 ghost use Rattle.sy_linear_known.specs.Seen.{query_known};
 ghost use Rattle.sy_linear_known.specs.Stored.{linear_query_of};
-ghost use Rattle.sy_intsolve_cuts.specs.Points.{IsPointOf, IsCornerOf, IsPlaceOf};
+ghost use Rattle.sy_intsolve_cuts.specs.Points.{IsPointOf, StandsAt, IsPlaceOf};
 ghost use Rattle.sy_intsolve_cuts.specs.declared.fork.Fork.TheVariants.{Branch};
 ghost use Rattle.sy_intsolve_cuts.specs.Growing.{IsFork};
 ghost use Rattle.sy_intsolve.specs.Ways.{IsNumberedQuery, IsLeaf, IsSplit, CanTurn};
@@ -56,7 +56,7 @@ fn grow(
     Ok(Turn::On(state))
 }
 
-/// A cut at the corner at the end of the way, where the last tableau suggests one, or else the branch on the variable's
+/// A cut at the point at the end of the way, where the last tableau suggests one, or else the branch on the variable's
 /// value.
 fn cut_or_branch(
     alloc: Global,
@@ -70,7 +70,7 @@ fn cut_or_branch(
     requires asked { IsNumberedQuery (linear_query_of query.now) }
     requires leaf { IsLeaf plan.now.order (linear_query_of query.now) plan.now.limits.nodes way }
     requires known { query_known (linear_query_of query.now) way.facts.items ≡ known.True }
-    requires corner { IsCornerOf query.now.vars way.facts.items point }
+    requires stands { StandsAt plan.now.order query.now.vars way.facts.items point }
     requires fork { IsFork plan.now.order (linear_query_of query.now) way.facts.items (Branch value.0 value.1) point }
     requires turns { CanTurn query.now.vars way.facts.items (Branch value.0 value.1) }
     ensures { IfOk result
@@ -88,7 +88,7 @@ fn cut_or_branch(
 }
 
 /// A turn at a point of the path of a leaf at which the query is known true: where each value is whole a model, and
-/// else, at a corner, a cut or a branch on the first value that isn't whole.
+/// else a cut or a branch on the first value that isn't whole, where the order allows one at the point.
 fn at_place(
     alloc: Global,
     query: &Query<IntTheory>,
@@ -101,7 +101,7 @@ fn at_place(
     requires leaf { IsLeaf plan.now.order (linear_query_of query.now) plan.now.limits.nodes way }
     requires known { query_known (linear_query_of query.now) way.facts.items ≡ known.True }
     requires right { KnownIsRight (linear_query_of query.now) way.facts.items known.True }
-    requires place { IsPlaceOf query.now.vars way.facts.items point }
+    requires place { IsPlaceOf plan.now.order query.now.vars way.facts.items point }
     ensures { IfOk result
         (IsTurn plan.now.order (linear_query_of query.now) plan.now.limits (room_open plan.now.limits.nodes way)) }
 {

@@ -5,6 +5,7 @@ ghost use Rattle.sy_linear_known.specs.Seen.{query_known};
 ghost use Rattle.sy_linear_known.specs.Stored.{linear_query_of};
 ghost use Rattle.sy_intsolve_paths_laws.specs.Paths.{IsPath};
 ghost use Rattle.sy_intsolve_cuts.specs.Points.{IsPointOf, TellsPlace};
+ghost use Rattle.sy_intsolve_cuts.specs.declared.step.Order.TheVariants.{First};
 ghost use Rattle.sy_intsolve.specs.Telling.{IsNear};
 ghost use Rattle.sy_intsolve.specs.Ways.{IsNumberedQuery, IsBrokenIn, TellsPoint};
 
@@ -44,7 +45,7 @@ pub(crate) fn place_at(
     requires asked { IsNumberedQuery (linear_query_of query.now) }
     requires path { IsPath query.now.vars way.now.facts.items }
     requires kept { IfSome point (IsPointOf query.now.vars way.now.facts.items) }
-    ensures { IfOk result (λ end. TellsPlace query.now.vars way.now.facts.items pivots end.answer) }
+    ensures { IfOk result (λ end. TellsPlace First query.now.vars way.now.facts.items pivots end.answer) }
 {
     let vars = query.vars.as_slice();
     let facts = way.facts.as_slice();

@@ -91,13 +91,13 @@ grows order q path (layer ∷ layers) (fact ∷ facts) end h k = by layer h.0 (g
     by (Under ms d p) l below = (l.0, (l.1.0, subst (λ f. IsGrowing order q (path ++ f ∷ []) (plugged layers end)) l.1.1 below))
 
 -- the whole tree leads where what stands at the end does
-pub leads : (order : Order) (q : LinearQuery) (path : List Fact) (layers : List Layer) (facts : List Fact) (end : GrownTree) (to : List Fact) → AreLayers order q path layers facts → LeadsTo q (path ++ facts) end to → LeadsTo q path (plugged layers end) to
+pub leads : (order : Order) (q : LinearQuery) (path : List Fact) (layers : List Layer) (facts : List Fact) (end : GrownTree) (to : List Fact) → AreLayers order q path layers facts → LeadsTo order q (path ++ facts) end to → LeadsTo order q path (plugged layers end) to
 unfolding AreLayers plugged
-leads order q path [] facts end to h k = subst (λ p. LeadsTo q p end to) (ap (λ fs. path ++ fs) h ∙ append-nil path) k
+leads order q path [] facts end to h k = subst (λ p. LeadsTo order q p end to) (ap (λ fs. path ++ fs) h ∙ append-nil path) k
 leads order q path (layer ∷ layers) [] end to h k = absurd h
-leads order q path (layer ∷ layers) (fact ∷ facts) end to h k = by layer h.0 (leads order q (path ++ fact ∷ []) layers facts end to h.1 (subst (λ p. LeadsTo q p end to) (sym (append_assoc path (fact ∷ []) facts)) k))
+leads order q path (layer ∷ layers) (fact ∷ facts) end to h k = by layer h.0 (leads order q (path ++ fact ∷ []) layers facts end to h.1 (subst (λ p. LeadsTo order q p end to) (sym (append_assoc path (fact ∷ []) facts)) k))
   where
-    by : (layer : Layer) → IsLayer order q path layer fact → LeadsTo q (path ++ fact ∷ []) (plugged layers end) to → LeadsTo q path (wrapped layer (plugged layers end)) to
-    by (Left fork p right) l below = inl (subst (λ f. LeadsTo q (path ++ f ∷ []) (plugged layers end) to) l.1 below)
-    by (Right fork p left) l below = inr (subst (λ f. LeadsTo q (path ++ f ∷ []) (plugged layers end) to) l.1 below)
-    by (Under ms d p) l below = (l.0, (l.1.0, subst (λ f. LeadsTo q (path ++ f ∷ []) (plugged layers end) to) l.1.1 below))
+    by : (layer : Layer) → IsLayer order q path layer fact → LeadsTo order q (path ++ fact ∷ []) (plugged layers end) to → LeadsTo order q path (wrapped layer (plugged layers end)) to
+    by (Left fork p right) l below = inl (subst (λ f. LeadsTo order q (path ++ f ∷ []) (plugged layers end) to) l.1 below)
+    by (Right fork p left) l below = inr (subst (λ f. LeadsTo order q (path ++ f ∷ []) (plugged layers end) to) l.1 below)
+    by (Under ms d p) l below = (l.0, (l.1.0, subst (λ f. LeadsTo order q (path ++ f ∷ []) (plugged layers end) to) l.1.1 below))

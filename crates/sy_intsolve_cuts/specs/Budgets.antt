@@ -24,13 +24,13 @@ pub record NodesMet (q : LinearQuery) (nodes : ℕ) (tree : GrownTree) : Type 0 
   pub growing : IsGrowing First q [] tree
   pub all : inner tree ≡ nodes
   pub path : List Fact
-  pub leads : LeadsTo q [] tree path
+  pub leads : LeadsTo First q [] tree path
 
 -- an unfinished tree with at most as many inner nodes as allowed, and an unfinished leaf under this path
 pub record OpensAt (q : LinearQuery) (nodes : ℕ) (tree : GrownTree) (path : List Fact) : Type 0 where
   pub growing : IsGrowing First q [] tree
   pub within : inner tree ≤ nodes
-  pub leads : LeadsTo q [] tree path
+  pub leads : LeadsTo First q [] tree path
 
 -- what is left shows that the budget of this name was met for the query under these limits
 abbrev pub Shows : LinearQuery → Limits → FailName → IntSpent → Type 0

@@ -14,7 +14,7 @@ use Rattle.sy_linear_known.specs.Trees.{added_fact, opposite_fact, at_or_below, 
 use Rattle.sy_linear_known.specs.Trees as shape
 use Rattle.sy_linear_known.specs.Points.{form_value_at}
 use Rattle.sy_simplex.specs.Problems.{numbers}
-use Rattle.sy_intsolve_cuts.specs.Points.{IsPointOf, IsCornerOf, IsFirstBroken}
+use Rattle.sy_intsolve_cuts.specs.Points.{IsPointOf, StandsAt, IsFirstBroken}
 use Rattle.sy_intsolve_cuts.specs.declared.fork.Fork.{Fork}
 use Rattle.sy_intsolve_cuts.specs.declared.fork.Fork.TheVariants as forks
 use Rattle.sy_intsolve_cuts.specs.declared.step.Order.{Order}
@@ -41,17 +41,17 @@ abbrev pub LeavesOpen : Order → LinearQuery → List Fact → Test → Type 0
 LeavesOpen orders.First q path t = query_known q path ≡ known.Undecided t
 LeavesOpen orders.Free q path t = Unit {0}
 
--- a split stands on a test that its order allows, at a point of the path; a branch where the query is known true, at a corner of
--- the path, on the first value there that isn't whole
+-- a split stands on a test that its order allows, at a point of the path; a branch where the query is known true, at a point that
+-- its order allows, on the first value there that isn't whole
 abbrev pub IsFork : Order → LinearQuery → List Fact → Fork → List Fraction → Type 0
 IsFork order q path (forks.Split t) p = TestSuits q.vars t × LeavesOpen order q path t × IsPointOf q.vars path p
-IsFork order q path (forks.Branch i k) p = IsOf sorts.Int q.vars i × (query_known q path ≡ known.True) × IsCornerOf q.vars path p × IsFirstBroken p i k
+IsFork order q path (forks.Branch i k) p = IsOf sorts.Int q.vars i × (query_known q path ≡ known.True) × StandsAt order q.vars path p × IsFirstBroken p i k
 
--- a cut stands where the query is known true, at a corner of the path; its multipliers are below its divisor, and the form
--- that it adds is negative at the corner
-pub record IsRounding (q : LinearQuery) (path : List Fact) (ms : List Fraction) (d : ℤ) (p : List Fraction) (e : Form) : Type 0 where
+-- a cut stands where the query is known true, at a point that its order allows; its multipliers are below its divisor, and the
+-- form that it adds is negative at the point
+pub record IsRounding (order : Order) (q : LinearQuery) (path : List Fact) (ms : List Fraction) (d : ℤ) (p : List Fraction) (e : Form) : Type 0 where
   pub known : query_known q path ≡ known.True
-  pub corner : IsCornerOf q.vars path p
+  pub stands : StandsAt order q.vars path p
   pub cut : IsCut ms d (forms path) e
   pub below : All (λ m. m.num <ℤ (d *ℤ pos m.den)) ms
   pub broken : is_negative_rational (form_value_at e (numbers p)) ≡ true
@@ -60,7 +60,7 @@ pub record IsRounding (q : LinearQuery) (path : List Fact) (ms : List Fraction) 
 -- each node under its path is as it is asked to be
 abbrev pub IsGrowing : Order → LinearQuery → List Fact → GrownTree → Type 0
 IsGrowing order q path (Forked fork p left right) = IsFork order q path fork p × IsGrowing order q (path ++ fork_fact true fork ∷ []) left × IsGrowing order q (path ++ fork_fact false fork ∷ []) right
-IsGrowing order q path (Cut ms d p inner) = (e : Form) × (IsRounding q path ms d p e × IsGrowing order q (path ++ AtLeast e ∷ []) inner)
+IsGrowing order q path (Cut ms d p inner) = (e : Form) × (IsRounding order q path ms d p e × IsGrowing order q (path ++ AtLeast e ∷ []) inner)
 IsGrowing order q path (Farkas ms) = IsContradiction ms (forms path)
 IsGrowing order q path Shown = query_known q path ≡ known.False
 IsGrowing order q path Unfinished = Unit {0}
@@ -82,12 +82,12 @@ is_closed Shown = true
 is_closed Unfinished = false
 
 -- the tree under the first path has an unfinished leaf, whose path is the second
-abbrev pub LeadsTo : LinearQuery → List Fact → GrownTree → List Fact → Type 0
-LeadsTo q path (Forked fork p left right) to = LeadsTo q (path ++ fork_fact true fork ∷ []) left to ⊎ LeadsTo q (path ++ fork_fact false fork ∷ []) right to
-LeadsTo q path (Cut ms d p inner) to = (e : Form) × (IsRounding q path ms d p e × LeadsTo q (path ++ AtLeast e ∷ []) inner to)
-LeadsTo q path (Farkas ms) to = ⊥
-LeadsTo q path Shown to = ⊥
-LeadsTo q path Unfinished to = to ≡ path
+abbrev pub LeadsTo : Order → LinearQuery → List Fact → GrownTree → List Fact → Type 0
+LeadsTo order q path (Forked fork p left right) to = LeadsTo order q (path ++ fork_fact true fork ∷ []) left to ⊎ LeadsTo order q (path ++ fork_fact false fork ∷ []) right to
+LeadsTo order q path (Cut ms d p inner) to = (e : Form) × (IsRounding order q path ms d p e × LeadsTo order q (path ++ AtLeast e ∷ []) inner to)
+LeadsTo order q path (Farkas ms) to = ⊥
+LeadsTo order q path Shown to = ⊥
+LeadsTo order q path Unfinished to = to ≡ path
 
 -- the tree without its points
 abbrev pub without_points : GrownTree → shape.TreeShape

@@ -17,6 +17,8 @@ use Rattle.sy_simplex.specs.Problems.{system_of, numbers}
 use Rattle.sy_simplex.specs.Runs.{RunIsSpent, IsOutOfRange}
 use Rattle.sy_simplex.specs.declared.answer.Feasible.{Feasible}
 use Rattle.sy_simplex.specs.declared.answer.Feasible.TheVariants.{Point, Conflict, Pivots, Range}
+use Rattle.sy_intsolve_cuts.specs.declared.step.Order.{Order}
+use Rattle.sy_intsolve_cuts.specs.declared.step.Order.TheVariants as orders
 
 -- each form is at least 0 there
 abbrev pub AreMet : List Form → (ℕ → ℚ) → Type 0
@@ -76,14 +78,19 @@ IsSoundFor vars path (Pivots run) = Unit {0}
 IsSoundFor vars path (Range run) = Unit {0}
 
 -- ---- where a search goes on
--- a point of the path each value of which is whole, or a corner
-pub record IsPlaceOf (vars : List Sort) (path : List Fact) (point : List Fraction) : Type 0 where
+-- where a branch or a cut stands: in the order First at a corner of the path, in the order Free at any point of it
+abbrev pub StandsAt : Order → List Sort → List Fact → List Fraction → Type 0
+StandsAt orders.First vars path point = IsCornerOf vars path point
+StandsAt orders.Free vars path point = IsPointOf vars path point
+
+-- a point of the path each value of which is whole, or at which a branch may stand
+pub record IsPlaceOf (order : Order) (vars : List Sort) (path : List Fact) (point : List Fraction) : Type 0 where
   pub at : IsPointOf vars path point
-  pub place : ValuesAreWhole point ⊎ IsCornerOf vars path point
+  pub place : ValuesAreWhole point ⊎ StandsAt order vars path point
 
 -- such a point, multipliers that refute the path, or a run that shows which budget was met
-abbrev pub TellsPlace : List Sort → List Fact → ℕ → Feasible → Type 0
-TellsPlace vars path pivots (Point point) = IsPlaceOf vars path point
-TellsPlace vars path pivots (Conflict multipliers) = IsContradiction multipliers (forms path)
-TellsPlace vars path pivots (Pivots run) = RunIsSpent (length vars) (forms path) pivots run.steps
-TellsPlace vars path pivots (Range run) = IsOutOfRange (length vars) (forms path) pivots run.steps
+abbrev pub TellsPlace : Order → List Sort → List Fact → ℕ → Feasible → Type 0
+TellsPlace order vars path pivots (Point point) = IsPlaceOf order vars path point
+TellsPlace order vars path pivots (Conflict multipliers) = IsContradiction multipliers (forms path)
+TellsPlace order vars path pivots (Pivots run) = RunIsSpent (length vars) (forms path) pivots run.steps
+TellsPlace order vars path pivots (Range run) = IsOutOfRange (length vars) (forms path) pivots run.steps

@@ -66,7 +66,7 @@ IsOtherSide order q path other = (other ≡ Unfinished) ⊎ (IsGrowing order q p
 abbrev pub IsLayer : Order → LinearQuery → List Fact → Layer → Fact → Type 0
 IsLayer order q path (Left fork p right) fact = IsFork order q path fork p × (fact ≡ fork_fact true fork) × IsOtherSide order q (path ++ fork_fact false fork ∷ []) right
 IsLayer order q path (Right fork p left) fact = IsFork order q path fork p × (fact ≡ fork_fact false fork) × IsOtherSide order q (path ++ fork_fact true fork ∷ []) left
-IsLayer order q path (Under ms d p) fact = (e : Form) × (IsRounding q path ms d p e × (fact ≡ AtLeast e))
+IsLayer order q path (Under ms d p) fact = (e : Form) × (IsRounding order q path ms d p e × (fact ≡ AtLeast e))
 
 -- the layers stand below the path one after the other, and add these facts to it
 unfoldable pub AreLayers : Order → LinearQuery → List Fact → List Layer → List Fact → Type 0

@@ -6,7 +6,7 @@ ghost use Rattle.sy_linear_known.specs.declared.path.Fact.{Fact as FactOf};
 ghost use Rattle.sy_intsolve_cuts.specs.Cuts.{AllFound, IsRoundingForm};
 
 use crate::checking::checked;
-use crate::rows::{multipliers, scale_of};
+use crate::rows::{multipliers, places_of, scale_of};
 use std::alloc::Global;
 use sy_frac::Frac;
 use sy_linear_known::{Fact, Form};
@@ -59,20 +59,20 @@ fn paired(multipliers: Seq<Frac>, found: Option<Form>) -> Option<Rounding>
     }
 }
 
-/// The cut that the row, so many times, suggests.
+/// The cut that a row with these coefficients, so many times, suggests.
 fn by_scale(
     alloc: Global,
     vars: &[Sort],
     facts: &[Fact],
     point: &[Frac],
-    tableau: &Tableau,
-    row: usize,
+    coefs: &[Frac],
+    places: &[Option<usize>],
     scale: i128,
 ) -> Result<Option<Rounding>, Want>
     requires { length vars.now < 2 ^ 31 }
     ensures { IfOk result (AllFound vars.now facts.now point.now) }
 {
-    let Some(multipliers) = multipliers(alloc, tableau, row, scale)? else {
+    let Some(multipliers) = multipliers(alloc, facts, coefs, places, scale)? else {
         return Ok(None);
     };
     let found = checked(alloc, vars, facts, multipliers.as_slice(), point)?;
@@ -86,36 +86,41 @@ fn by_row(
     facts: &[Fact],
     point: &[Frac],
     tableau: &Tableau,
+    places: &[Option<usize>],
     row: usize,
 ) -> Result<Option<Rounding>, Want>
     requires { length vars.now < 2 ^ 31 }
     ensures { IfOk result (AllFound vars.now facts.now point.now) }
 {
-    let Some(scale) = scale_of(tableau, row) else {
+    let (Some(scale), Some(row)) = (scale_of(tableau, places, row), tableau.rows.get(row)) else {
         return Ok(None);
     };
     let scale = i128::from(scale);
-    let below = by_scale(alloc, vars, facts, point, tableau, row, -scale)?;
-    let above = by_scale(alloc, vars, facts, point, tableau, row, scale)?;
+    let coefs = row.as_slice();
+    let below = by_scale(alloc, vars, facts, point, coefs, places, -scale)?;
+    let above = by_scale(alloc, vars, facts, point, coefs, places, scale)?;
     Ok(lesser(below, above))
 }
 
 /// The cut of the least magnitude among those that the tableau's rows suggest: each that has a free variable whose
-/// value isn't whole, and its opposite. `None` where no row gives one. `Want` comes where memory runs out, and nowhere
-/// else.
+/// value isn't whole, and its opposite. The path's forms have the numbers `joined` in the tableau, or else those from 0
+/// on; other forms count as free variables. `None` where no row gives a cut. `Want` comes where memory runs out, and
+/// nowhere else.
 pub fn best(
     alloc: Global,
     vars: &[Sort],
     facts: &[Fact],
     point: &[Frac],
     tableau: &Tableau,
+    joined: Option<&[u32]>,
 ) -> Result<Option<Rounding>, Want>
     requires { length vars.now < 2 ^ 31 }
     ensures { IfOk result (AllFound vars.now facts.now point.now) }
 {
+    let places = places_of(alloc, tableau, joined)?;
     let mut least = None;
     for row in 0..tableau.basics.len() {
-        let found = by_row(alloc, vars, facts, point, tableau, row)?;
+        let found = by_row(alloc, vars, facts, point, tableau, places.as_slice(), row)?;
         least = lesser(least, found);
     }
     Ok(least)

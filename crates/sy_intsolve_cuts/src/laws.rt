@@ -20,7 +20,7 @@ pub fn whole_trees()
         IsGrowing order query (path ++ facts) end → IsGrowing order query path (plugged layers end) }
     ensures leads { (order : Order) (query : LinearQuery) (path : List Fact) (layers : List Layer)
         (facts : List Fact) (end : GrownTree) (to : List Fact) → AreLayers order query path layers facts →
-        LeadsTo query (path ++ facts) end to → LeadsTo query path (plugged layers end) to }
+        LeadsTo order query (path ++ facts) end to → LeadsTo order query path (plugged layers end) to }
     ensures inner { (layers : List Layer) (end : GrownTree) → inner (plugged layers end) ≡ inner_of layers + inner end }
 {}
 

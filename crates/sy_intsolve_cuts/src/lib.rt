@@ -1,4 +1,4 @@
-// Broken points and cuts of a path at a corner, and the trees that a search grows.
+// Broken points and cuts of a path, and the trees that a search grows.
 #![tactic(auto)]
 
 mod checking;
@@ -24,7 +24,7 @@ pub use keeping::{copied, kept, meets, number_at};
 pub use laws::{closed_trees_refute, last_layers, open_trees, whole_trees};
 pub use place::whole_or_corner;
 pub use plugging::{plugged, wrapped};
-pub use rows::{multipliers, scale_of};
+pub use rows::{multipliers, places_of, scale_of};
 pub use solving::corner;
 pub use spent::{IntRange, IntSpent};
 pub use step::{Order, Step};

@@ -2,6 +2,7 @@
 ghost use Rattle.std.specs.Prelude.{◌≡◌, ◌<◌, ◌^◌, true, length, IfOk, IfSome};
 ghost use Rattle.sy_intsolve_paths_laws.specs.Paths.{IsPath};
 ghost use Rattle.sy_intsolve_cuts.specs.Points.{IsPointOf, ValuesAreWhole, TellsPlace};
+ghost use Rattle.sy_intsolve_cuts.specs.declared.step.Order.TheVariants.{First};
 
 use crate::solving::corner;
 use std::alloc::Global;
@@ -35,7 +36,7 @@ pub fn whole_or_corner(
     requires few { length vars.now < 2 ^ 31 }
     requires path { IsPath vars.now facts.now }
     requires kept { IfSome kept (IsPointOf vars.now facts.now) }
-    ensures { IfOk result (λ end. TellsPlace vars.now facts.now pivots end.answer) }
+    ensures { IfOk result (λ end. TellsPlace First vars.now facts.now pivots end.answer) }
 {
     if let Some(near) = kept {
         if are_whole(near.as_slice()) {

@@ -22,7 +22,7 @@ fn cut_of(rt: &impl Abort, alloc: Global, text: &str) -> Option<Form> {
     let found = match (&end.answer, &end.last) {
         (Feasible::Point(point), Some(tableau)) => {
             let vars = [Sort::Int, Sort::Int];
-            let found = best(alloc, &vars, facts.as_slice(), point.as_slice(), tableau);
+            let found = best(alloc, &vars, facts.as_slice(), point.as_slice(), tableau, None);
             found.expect(rt, "memory")
         }
         _ => None,

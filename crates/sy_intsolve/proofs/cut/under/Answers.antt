@@ -17,7 +17,7 @@ returns c =
     let inner = c.in_ok-next.ensures.inner ∙ c.counted.ensures.inner in (
       (
         cut-grown c.args.plan.now.order (linear_query_of c.args.query.now) c.args.plan.now.limits.nodes c.args.way c.in_ok-next.next c.args.point c.args.rounding step c.requires.leaf
-            (cut-layer c.args.plan.now.order (linear_query_of c.args.query.now) c.args.way.facts.items c.args.point c.args.rounding c.requires.known c.requires.corner c.requires.found)
+            (cut-layer c.args.plan.now.order (linear_query_of c.args.query.now) c.args.way.facts.items c.args.point c.args.rounding c.requires.known c.requires.stands c.requires.found)
             c.requires.found.suits refl facts steps inner c.if-way-plan.false,
         tt,
       ),

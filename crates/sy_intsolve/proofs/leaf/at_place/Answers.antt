@@ -1,6 +1,6 @@
 use Rattle.std.proofs.Common.{sym, subst}
 use Rattle.sy_intsolve_cuts.specs.Points.{IsPointOf, IsFirstBroken}
-use Rattle.sy_intsolve_cuts.proofs.Places.{broken-corner}
+use Rattle.sy_intsolve_cuts.proofs.Places.{broken-stands}
 use Rattle.sy_intsolve.proofs.leaf.at_place.Goals as goal
 
 pub broken-requires : goal.broken-requires
@@ -18,13 +18,13 @@ model-requires c = record {
 pub cut_or_branch-requires : goal.cut_or_branch-requires
 cut_or_branch-requires c =
     let first : IsFirstBroken c.args.point c.in-Some.value.0 c.in-Some.value.1 = subst (λ p. IsFirstBroken p c.in-Some.value.0 c.in-Some.value.1) c.as_slice-here.ensures c.in-Some.ensures.0 in
-    let corner = broken-corner c.args.query.now.vars c.args.way.facts.items c.args.point c.in-Some.value.0 c.in-Some.value.1 c.requires.place first in
+    let stands = broken-stands c.args.plan.now.order c.args.query.now.vars c.args.way.facts.items c.args.point c.in-Some.value.0 c.in-Some.value.1 c.requires.place first in
     record {
       asked = c.requires.asked;
       leaf = c.requires.leaf;
       known = c.requires.known;
-      corner = corner;
-      fork = (c.in-Some.ensures.1, c.requires.known, corner, first);
+      stands = stands;
+      fork = (c.in-Some.ensures.1, c.requires.known, stands, first);
       turns = (c.requires.leaf.path, c.in-Some.ensures.1);
     }
 

@@ -13,7 +13,7 @@ pub under-requires : goal.under-requires
 under-requires c = record {
   leaf = c.requires.leaf;
   known = c.requires.known;
-  corner = c.requires.corner;
+  stands = c.requires.stands;
   found = subst (λ point. IsCutBy c.args.query.now.vars c.args.way.facts.items point c.in-Some.rounding) c.as_slice-here.ensures (subst (AllFound c.args.query.now.vars c.args.way.facts.items c.as_slice-here.result.now) c.in-Some.is c.in_ok-found.ensures);
 }
 
