@@ -1,6 +1,6 @@
 -- What the points of a path tell, and the sides of a fork.
 use Rattle.std.specs.Prelude.{◌≡◌, ℕ, true, List, ℤ}
-use Rattle.std.proofs.Common.{refl, ap, subst}
+use Rattle.std.proofs.Common.{refl, ap, subst, inr}
 use Rattle.sy_frac.specs.Fraction.{Fraction}
 use Rattle.sy_terms.specs.declared.sort.Sort.{Sort}
 use Rattle.sy_linear_known.specs.declared.path.Fact.{Fact}
@@ -13,11 +13,11 @@ use Rattle.sy_linear_known.specs.Trees.{added_fact, opposite_fact, at_or_below, 
 use Rattle.sy_linear.specs.Judging.{suits, opposite_fits, is_int, Adds, split_outcome, branch_outcome}
 use Rattle.sy_simplex.specs.declared.answer.Feasible.{Feasible}
 use Rattle.sy_simplex.specs.declared.answer.Feasible.TheVariants.{Point, Conflict, Pivots, Range}
-use Rattle.sy_intsolve_cuts.specs.Points.{IsPointOf, TellsPlace}
+use Rattle.sy_intsolve_cuts.specs.Points.{IsPointOf, IsPlaceOf, TellsPlace}
 use Rattle.sy_intsolve_cuts.specs.declared.fork.Fork.{Fork}
 use Rattle.sy_intsolve_cuts.specs.declared.fork.Fork.TheVariants as forks
 use Rattle.sy_intsolve_cuts.specs.declared.step.Order.{Order}
-use Rattle.sy_intsolve_cuts.specs.declared.step.Order.TheVariants.{First}
+use Rattle.sy_intsolve_cuts.specs.declared.step.Order.TheVariants.{First, Free}
 use Rattle.sy_intsolve_cuts.specs.Growing.{IsFork}
 use Rattle.sy_intsolve_cuts.proofs.Places.{stands-point}
 use Rattle.sy_intsolve.specs.Ways.{HasSides, CanTurn, TellsPoint}
@@ -25,6 +25,11 @@ use Rattle.sy_intsolve.specs.Ways.{HasSides, CanTurn, TellsPoint}
 pub place-moved : (vars ws : List Sort) (path facts : List Fact) (pivots : ℕ) (answer : Feasible) → ws ≡ vars → facts ≡ path → TellsPlace First ws facts pivots answer → TellsPlace First vars path pivots answer
 place-moved vars ws path facts pivots answer e f t =
     subst (λ v. TellsPlace First v path pivots answer) e (subst (λ p. TellsPlace First ws p pivots answer) f t)
+
+-- the order Free goes on at any point of the path
+pub free-place : (order : Order) (vars : List Sort) (path : List Fact) (p : List Fraction) → order ≡ Free → IsPointOf vars path p → IsPlaceOf order vars path p
+free-place First vars path p e a = absurd cc
+free-place Free vars path p e a = record { at = a; place = inr a }
 
 pub place-point : (vars : List Sort) (path : List Fact) (pivots : ℕ) (answer : Feasible) → TellsPlace First vars path pivots answer → TellsPoint vars path pivots answer
 place-point vars path pivots (Point p) s = s.at

@@ -20,6 +20,7 @@ use sy_meaning_integers::IntTheory;
 use sy_query_base::Query;
 use sy_seq::{Seq, Want};
 use sy_simplex::Tableau;
+use sy_simplex_kept::KeptTableau;
 
 /// How many cuts may stand in a row.
 const MOST_IN_A_ROW: usize = 4;
@@ -53,6 +54,29 @@ pub(crate) fn cut_at(
     let vars = query.vars.as_slice();
     let facts = way.facts.as_slice();
     let found = best(alloc, vars, facts, point, &tableau, None)?;
+    Ok(found)
+}
+
+/// The same by the kept tableau, at a point of the way's path.
+pub(crate) fn cut_by_kept(
+    alloc: Global,
+    query: &Query<IntTheory>,
+    way: &Way,
+    point: &[Frac],
+    kept: &KeptTableau,
+) -> Result<Option<Rounding>, Want>
+    requires { IsNumberedQuery (linear_query_of query.now) }
+    ensures { IfOk result (AllFound query.now.vars way.now.facts.items point.now) }
+{
+    if cuts_in_row(way.steps.as_slice()) >= MOST_IN_A_ROW {
+        return Ok(None);
+    }
+    let (Some(tableau), Some(numbers)) = (kept.tableau(), kept.numbers()) else {
+        return Ok(None);
+    };
+    let vars = query.vars.as_slice();
+    let facts = way.facts.as_slice();
+    let found = best(alloc, vars, facts, point, tableau, Some(numbers))?;
     Ok(found)
 }
 

@@ -98,6 +98,32 @@ pub(crate) fn near(
     }
 }
 
+/// The given point of the way's path where it is whole, or else what the kept tableau tells.
+pub(crate) fn whole_or_near(
+    alloc: Global,
+    query: &Query<IntTheory>,
+    pivots: u32,
+    way: &Way,
+    point: Option<Seq<Frac>>,
+    kept: &mut KeptTableau,
+) -> Result<Near, Want>
+    requires asked { IsNumberedQuery (linear_query_of query.now) }
+    requires path { IsPath query.now.vars way.now.facts.items }
+    requires point { IfSome point (IsPointOf query.now.vars way.now.facts.items) }
+    requires vars { kept.old.vars ≡ length query.now.vars }
+    ensures near { IfOk result (IsNear query.now.vars way.now.facts.items) }
+    ensures vars { kept.new.vars ≡ kept.old.vars }
+{
+    if let Some(point) = point {
+        let here = point.as_slice();
+        if broken(query, way, here).is_none() {
+            return Ok(Near::Point(point));
+        }
+    }
+    let told = told_by_kept(alloc, query, pivots, way, kept)?;
+    Ok(told)
+}
+
 /// A point of the way's path: the kept one, or else a corner; multipliers that refute it, or the budget that was met.
 pub(crate) fn point_at(
     alloc: Global,

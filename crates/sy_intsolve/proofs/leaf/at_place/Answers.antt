@@ -20,12 +20,12 @@ cut_or_branch-requires c =
     let first : IsFirstBroken c.args.point c.in-Some.value.0 c.in-Some.value.1 = subst (λ p. IsFirstBroken p c.in-Some.value.0 c.in-Some.value.1) c.as_slice-here.ensures c.in-Some.ensures.0 in
     let stands = broken-stands c.args.plan.now.order c.args.query.now.vars c.args.way.facts.items c.args.point c.in-Some.value.0 c.in-Some.value.1 c.requires.place first in
     record {
-      asked = c.requires.asked;
       leaf = c.requires.leaf;
       known = c.requires.known;
       stands = stands;
       fork = (c.in-Some.ensures.1, c.requires.known, stands, first);
       turns = (c.requires.leaf.path, c.in-Some.ensures.1);
+      found = c.requires.found;
     }
 
 pub returns-in-None : goal.returns-in-None

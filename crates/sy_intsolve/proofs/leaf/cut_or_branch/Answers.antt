@@ -3,7 +3,7 @@ use mir.Syntax.{w128}
 use mir.Val.{SFits}
 use Rattle.std.proofs.lemmas.Int.{to_z-of_z}
 use Rattle.sy_linear_known.specs.Stored.{linear_query_of}
-use Rattle.sy_intsolve_cuts.specs.Cuts.{AllFound, IsCutBy}
+use Rattle.sy_intsolve_cuts.specs.Cuts.{AllFound}
 use Rattle.sy_intsolve_cuts.specs.declared.fork.Fork.TheVariants.{Branch}
 use Rattle.sy_intsolve_cuts.specs.Growing.{IsFork}
 use Rattle.sy_intsolve.specs.Ways.{CanTurn}
@@ -14,7 +14,7 @@ under-requires c = record {
   leaf = c.requires.leaf;
   known = c.requires.known;
   stands = c.requires.stands;
-  found = subst (λ point. IsCutBy c.args.query.now.vars c.args.way.facts.items point c.in-Some.rounding) c.as_slice-here.ensures (subst (AllFound c.args.query.now.vars c.args.way.facts.items c.as_slice-here.result.now) c.in-Some.is c.in_ok-found.ensures);
+  found = subst (AllFound c.args.query.now.vars c.args.way.facts.items c.args.point) c.in-Some.is c.requires.found;
 }
 
 pub grow-requires : goal.grow-requires
