@@ -11,7 +11,7 @@ ghost use Rattle.sy_loop_candidate.specs.Clauses.{GoesFor, IsCandidateFor, IsKno
 ghost use Rattle.sy_loop_truth.specs.Clauses.{AreAssignedFor, AreRestsFor, MeetAllFor};
 ghost use Rattle.sy_loop_goods.specs.Clauses.{IsMemoFor};
 ghost use Rattle.sy_loop.specs.Clauses.{ArePartsFor, IsJoinableFor, IsPlanFor, IsRefutedFor, TreesFollowFromFor};
-ghost use Rattle.sy_loop_candidate.specs.Going.{OnNext};
+ghost use Rattle.sy_loop_candidate.specs.Stopping.{UnlessWant};
 ghost use Rattle.sy_loop_spec.specs.Trees.{conditional_of};
 
 use crate::copies::copied_leaf;
@@ -20,7 +20,7 @@ use crate::plan::Plan;
 use crate::served::is_served;
 use std::alloc::{AllocError, Global};
 use sy_bank_level::{Bank, Kept};
-use sy_loop_candidate::{End, Known, Step, decide_due, try_candidate};
+use sy_loop_candidate::{End, Known, Stop, decide_due, try_candidate};
 use sy_loop_goods::{Goods, LeafTask, Memo, good_rows};
 use sy_loop_trees::{tree_term, truth_rows};
 use sy_loop_truth::{Rest, Search};
@@ -54,7 +54,7 @@ pub(crate) fn join<T: Theory, D: Decide<T>>(
     level: u32,
     rests: &[Rest],
     known: &mut Known<T>,
-) -> Result<Step<T, D::Proof, D::Spent>, Want>
+) -> Result<(), Stop<T, D::Proof, D::Spent>>
     requires problem { ProblemFits T.Theory task.now.problem.now }
     requires plan { IsPlanFor T.Theory task.now plan.old }
     requires bank { IsJoinableFor T.Theory task.now.problem.now known.old bank.now }
@@ -62,13 +62,13 @@ pub(crate) fn join<T: Theory, D: Decide<T>>(
     requires known { IsKnownFor T.Theory task.now known.old }
     requires room { length known.old.stored.items < task.now.limits.now.rounds }
     requires rests { AreRestsFor T.Theory task.now.problem.now known.old.stored known.old.points rests.now }
-    ensures plan { OnOk result (IsPlanFor T.Theory task.now plan.new) }
-    ensures known { OnOk result (IsKnownFor T.Theory task.now known.new) }
-    ensures step { IfOk result (GoesFor T.Theory D.Decide task.now known.old known.new) }
-    ensures trees { IfOk result (OnNext (TreesFollowFromFor T.Theory task.now known.old level bank.now)) }
+    ensures plan { UnlessWant result (IsPlanFor T.Theory task.now plan.new) }
+    ensures known { UnlessWant result (IsKnownFor T.Theory task.now known.new) }
+    ensures step { GoesFor T.Theory D.Decide task.now known.old known.new result }
+    ensures trees { OnOk result (TreesFollowFromFor T.Theory task.now known.old level bank.now) }
 {
     if known.points.of(0).len() == 0 {
-        return Ok(Step::Next);
+        return Ok(());
     }
     let parts = parts_of(
         task,
@@ -92,7 +92,7 @@ fn join_parts<'a, T: Theory, D: Decide<T>>(
     level: u32,
     parts: &Parts<'a, T>,
     known: &mut Known<T>,
-) -> Result<Step<T, D::Proof, D::Spent>, Want>
+) -> Result<(), Stop<T, D::Proof, D::Spent>>
     requires problem { ProblemFits T.Theory task.now.problem.now }
     requires plan { IsPlanFor T.Theory task.now plan.now }
     requires bank { IsJoinableFor T.Theory task.now.problem.now known.old bank.now }
@@ -102,17 +102,13 @@ fn join_parts<'a, T: Theory, D: Decide<T>>(
     requires parts { ArePartsFor T.Theory task.now.problem.now known.old plan.now.condition level bank.now parts.now }
     requires few_leaves { length parts.now.goods.rows < 2 ^ 31 }
     requires few_conditions { length parts.now.rows < 2 ^ 31 }
-    ensures known { OnOk result (IsKnownFor T.Theory task.now known.new) }
-    ensures step { IfOk result (GoesFor T.Theory D.Decide task.now known.old known.new) }
-    ensures trees { IfOk result (OnNext (TreesFollowFromFor T.Theory task.now known.old level bank.now)) }
+    ensures known { UnlessWant result (IsKnownFor T.Theory task.now known.new) }
+    ensures step { GoesFor T.Theory D.Decide task.now known.old known.new result }
+    ensures trees { OnOk result (TreesFollowFromFor T.Theory task.now known.old level bank.now) }
 {
-    match try_parts(task, decide, plan, bank, level, parts, known)? {
-        Step::Next => {}
-        Step::Again => return Ok(Step::Again),
-        Step::End(end) => return Ok(Step::End(end)),
-    }
+    try_parts(task, decide, plan, bank, level, parts, known)?;
     let Some(leaving) = parts.goods.leaving else {
-        return Ok(Step::Next);
+        return Ok(());
     };
     let (bodies, assignment) = copied_leaf(
         task.alloc,
@@ -120,7 +116,7 @@ fn join_parts<'a, T: Theory, D: Decide<T>>(
         parts.leaves.as_slice(),
         leaving,
     )?;
-    Ok(Step::End(End::Checked(bodies, assignment)))
+    Err(Stop::Ends(End::Checked(bodies, assignment)))
 }
 
 /// The bank's kept terms of sizes of at most `level`, as parts of trees whose conditions are of this nonterminal.
@@ -183,7 +179,7 @@ fn try_parts<'a, T: Theory, D: Decide<T>>(
     _level: u32,
     parts: &Parts<'a, T>,
     known: &mut Known<T>,
-) -> Result<Step<T, D::Proof, D::Spent>, Want>
+) -> Result<(), Stop<T, D::Proof, D::Spent>>
     requires problem { ProblemFits T.Theory task.now.problem.now }
     requires plan { IsPlanFor T.Theory task.now plan.now }
     requires bank { IsJoinableFor T.Theory task.now.problem.now known.old _bank.now }
@@ -193,20 +189,19 @@ fn try_parts<'a, T: Theory, D: Decide<T>>(
     requires parts { ArePartsFor T.Theory task.now.problem.now known.old plan.now.condition _level _bank.now parts.now }
     requires few_leaves { length parts.now.goods.rows < 2 ^ 31 }
     requires few_conditions { length parts.now.rows < 2 ^ 31 }
-    ensures known { OnOk result (IsKnownFor T.Theory task.now known.new) }
-    ensures step { IfOk result (GoesFor T.Theory D.Decide task.now known.old known.new) }
-    ensures trees { IfOk result (OnNext (parts.now.goods.leaving ≡ None →
-        TreesFollowFromFor T.Theory task.now known.old _level _bank.now)) }
+    ensures known { UnlessWant result (IsKnownFor T.Theory task.now known.new) }
+    ensures step { GoesFor T.Theory D.Decide task.now known.old known.new result }
+    ensures trees { OnOk result (parts.now.goods.leaving ≡ None →
+        TreesFollowFromFor T.Theory task.now known.old _level _bank.now) }
 {
     match unify(task.alloc, parts.points, &parts.goods.rows, &parts.rows)? {
-        Joined::Uncovered(_) => Ok(Step::Next),
+        Joined::Uncovered(_) => Ok(()),
         Joined::Tree(choice) => {
             let leaves = parts.leaves.as_slice();
             let term = chosen_term(task.alloc, choice, leaves, parts.conditions.as_slice())?;
             let posed = plan.posed.as_slice();
             let served = is_served(posed, &parts.goods);
-            let step = try_tree(task, decide, term, served, known)?;
-            Ok(step)
+            try_tree(task, decide, term, served, known)
         }
     }
 }
@@ -234,17 +229,17 @@ fn try_tree<T: Theory, D: Decide<T>>(
     term: Term<T>,
     served: bool,
     known: &mut Known<T>,
-) -> Result<Step<T, D::Proof, D::Spent>, Want>
+) -> Result<(), Stop<T, D::Proof, D::Spent>>
     requires problem { ProblemFits T.Theory task.now.problem.now }
     requires candidate { IsCandidateFor T.Theory task.now known.old (expr_of T.denotes term ∷ []) }
     requires meets { IsTrue served →
         MeetAllFor T.Theory task.now.problem.now known.old.stored (expr_of T.denotes term ∷ []) }
     requires known { IsKnownFor T.Theory task.now known.old }
     requires room { length known.old.stored.items < task.now.limits.now.rounds }
-    ensures known { OnOk result (IsKnownFor T.Theory task.now known.new) }
-    ensures step { IfOk result (GoesFor T.Theory D.Decide task.now known.old known.new) }
-    ensures refuted { IfOk result
-        (OnNext (IsRefutedFor T.Theory task.now.problem.now known.old (expr_of T.denotes term ∷ []))) }
+    ensures known { UnlessWant result (IsKnownFor T.Theory task.now known.new) }
+    ensures step { GoesFor T.Theory D.Decide task.now known.old known.new result }
+    ensures refuted { OnOk result
+        (IsRefutedFor T.Theory task.now.problem.now known.old (expr_of T.denotes term ∷ [])) }
 {
     if served {
         return decide_term(task, decide, term, known);
@@ -258,21 +253,20 @@ fn decide_term<T: Theory, D: Decide<T>>(
     decide: &mut D,
     term: Term<T>,
     known: &mut Known<T>,
-) -> Result<Step<T, D::Proof, D::Spent>, Want>
+) -> Result<(), Stop<T, D::Proof, D::Spent>>
     requires problem { ProblemFits T.Theory task.now.problem.now }
     requires candidate { IsCandidateFor T.Theory task.now known.old (expr_of T.denotes term ∷ []) }
     requires meets { MeetAllFor T.Theory task.now.problem.now known.old.stored (expr_of T.denotes term ∷ []) }
     requires known { IsKnownFor T.Theory task.now known.old }
     requires room { length known.old.stored.items < task.now.limits.now.rounds }
-    ensures known { OnOk result (IsKnownFor T.Theory task.now known.new) }
-    ensures step { IfOk result (GoesFor T.Theory D.Decide task.now known.old known.new) }
-    ensures refuted { IfOk result
-        (OnNext (IsRefutedFor T.Theory task.now.problem.now known.old (expr_of T.denotes term ∷ []))) }
+    ensures known { UnlessWant result (IsKnownFor T.Theory task.now known.new) }
+    ensures step { GoesFor T.Theory D.Decide task.now known.old known.new result }
+    ensures refuted { OnOk result
+        (IsRefutedFor T.Theory task.now.problem.now known.old (expr_of T.denotes term ∷ [])) }
 {
     let mut bodies = Seq::new(task.alloc);
     bodies.push(term)?;
-    let step = decide_due(task, decide, bodies, known)?;
-    Ok(step)
+    decide_due(task, decide, bodies, known)
 }
 
 /// Tries the term as the one body.
@@ -281,18 +275,17 @@ fn try_term<T: Theory, D: Decide<T>>(
     decide: &mut D,
     term: Term<T>,
     known: &mut Known<T>,
-) -> Result<Step<T, D::Proof, D::Spent>, Want>
+) -> Result<(), Stop<T, D::Proof, D::Spent>>
     requires problem { ProblemFits T.Theory task.now.problem.now }
     requires candidate { IsCandidateFor T.Theory task.now known.old (expr_of T.denotes term ∷ []) }
     requires known { IsKnownFor T.Theory task.now known.old }
     requires room { length known.old.stored.items < task.now.limits.now.rounds }
-    ensures known { OnOk result (IsKnownFor T.Theory task.now known.new) }
-    ensures step { IfOk result (GoesFor T.Theory D.Decide task.now known.old known.new) }
-    ensures refuted { IfOk result
-        (OnNext (IsRefutedFor T.Theory task.now.problem.now known.old (expr_of T.denotes term ∷ []))) }
+    ensures known { UnlessWant result (IsKnownFor T.Theory task.now known.new) }
+    ensures step { GoesFor T.Theory D.Decide task.now known.old known.new result }
+    ensures refuted { OnOk result
+        (IsRefutedFor T.Theory task.now.problem.now known.old (expr_of T.denotes term ∷ [])) }
 {
     let mut bodies = Seq::new(task.alloc);
     bodies.push(term)?;
-    let step = try_candidate(task, decide, bodies, known)?;
-    Ok(step)
+    try_candidate(task, decide, bodies, known)
 }

@@ -5,14 +5,14 @@ ghost use Rattle.sy_bank_level.specs.Bank.{merged_of};
 ghost use Rattle.sy_bank_level.specs.Covering.{terms};
 ghost use Rattle.sy_bank_level.specs.Stored.{entry_of, entries_of, chosen_of};
 ghost use Rattle.sy_loop_truth.specs.Traces.{TuplesGrow};
-ghost use Rattle.sy_loop_candidate.specs.Going.{OnNext};
+ghost use Rattle.sy_loop_candidate.specs.Stopping.{UnlessWant};
 ghost use Rattle.sy_grammar_base.specs.Fits.{ProblemFits};
 ghost use Rattle.sy_loop_candidate.specs.Clauses.{GoesFor, IsKnownFor, IsOpenFor, StepsFor};
 ghost use Rattle.sy_loop.specs.LevelClauses.{AreHonestFor, HaveRowsFor, IsBegunFor, AreChoicesFor, AllAreRefutedFor, AreWithinFor};
 
 use std::alloc::Global;
 use sy_bank_level::{Bank, Kept};
-use sy_loop_candidate::{Known, Step, Suspects, are_refuted, try_candidate};
+use sy_loop_candidate::{Known, Stop, Suspects, are_refuted, try_candidate};
 use sy_loop_truth::Search;
 use sy_query_base::Decide;
 use sy_terms::{Bodies, Seq, Theory, Want};
@@ -34,16 +34,16 @@ pub fn try_level<T: Theory, D: Decide<T>>(
     banks: &[Bank<T>],
     level: u32,
     known: &mut Known<T>,
-) -> Result<Step<T, D::Proof, D::Spent>, Want>
+) -> Result<(), Stop<T, D::Proof, D::Spent>>
     requires problem { ProblemFits T.Theory task.now.problem.now }
     requires banks { AreHonestFor T.Theory task.now known.old.points banks.now }
     requires opened { IsOpenFor T.Theory task.now known.old level }
     requires known { IsKnownFor T.Theory task.now known.old }
     requires room { length known.old.stored.items < task.now.limits.now.rounds }
-    ensures known { OnOk result (IsKnownFor T.Theory task.now known.new) }
-    ensures step { IfOk result (GoesFor T.Theory D.Decide task.now known.old known.new) }
-    ensures refuted { IfOk result
-        (OnNext (AllAreRefutedFor T.Theory task.now known.old [] (map (merged_of T.denotes) banks.now) level)) }
+    ensures known { UnlessWant result (IsKnownFor T.Theory task.now known.new) }
+    ensures step { GoesFor T.Theory D.Decide task.now known.old known.new result }
+    ensures refuted { OnOk result
+        (AllAreRefutedFor T.Theory task.now known.old [] (map (merged_of T.denotes) banks.now) level) }
 {
     let trial = LevelTask {
         given: task,
@@ -52,8 +52,7 @@ pub fn try_level<T: Theory, D: Decide<T>>(
     };
     let mut chosen = Vec::with_capacity(task.alloc, banks.len())?;
     let mut suspects = Suspects::new(task.alloc);
-    let step = try_rest(&trial, decide, &mut suspects, &mut chosen, level, known)?;
-    Ok(step)
+    try_rest(&trial, decide, &mut suspects, &mut chosen, level, known)
 }
 
 /// Tries all bodies that begin with the chosen kept terms, and whose further sizes sum to `left`.
@@ -65,7 +64,7 @@ fn try_rest<'a, T: Theory, D: Decide<T>>(
     chosen: &mut Vec<&'a Kept<T>>,
     left: u32,
     known: &mut Known<T>,
-) -> Result<Step<T, D::Proof, D::Spent>, Want>
+) -> Result<(), Stop<T, D::Proof, D::Spent>>
     requires problem { ProblemFits T.Theory task.now.given.now.problem.now }
     requires banks { AreHonestFor T.Theory task.now.given.now known.old.points task.now.banks.now }
     requires begun { IsBegunFor T.Theory task.now.given.now known.old.points task.now.level
@@ -75,21 +74,19 @@ fn try_rest<'a, T: Theory, D: Decide<T>>(
     requires known { IsKnownFor T.Theory task.now.given.now known.old }
     requires room { length known.old.stored.items < task.now.given.now.limits.now.rounds }
     ensures chosen { OnOk result (chosen.new.items ≡ chosen.old.items) }
-    ensures known { OnOk result
+    ensures known { UnlessWant result
         (IsKnownFor T.Theory task.now.given.now known.new) }
-    ensures step { IfOk result
-        (GoesFor T.Theory D.Decide task.now.given.now known.old known.new) }
-    ensures refuted { IfOk result
-        (OnNext (AllAreRefutedFor T.Theory task.now.given.now known.old (terms (chosen_of T.denotes chosen.old.items))
-        (drop (length chosen.old.items) (map (merged_of T.denotes) task.now.banks.now)) left)) }
+    ensures step { GoesFor T.Theory D.Decide task.now.given.now known.old known.new result }
+    ensures refuted { OnOk result (AllAreRefutedFor T.Theory task.now.given.now known.old
+        (terms (chosen_of T.denotes chosen.old.items))
+        (drop (length chosen.old.items) (map (merged_of T.denotes) task.now.banks.now)) left) }
 {
     let function = chosen.len();
     if function >= task.banks.len() {
         if left > 0 {
-            return Ok(Step::Next);
+            return Ok(());
         }
-        let step = try_chosen(task, decide, suspects, chosen.as_slice(), known)?;
-        return Ok(step);
+        return try_chosen(task, decide, suspects, chosen.as_slice(), known);
     }
     let bank = &task.banks[function];
     let least = if function + 1 == task.banks.len() {
@@ -100,13 +97,9 @@ fn try_rest<'a, T: Theory, D: Decide<T>>(
     for size in u64::from(least)..u64::from(left) + 1 {
         let size = size as u32;
         let kept = bank.kept(0, size);
-        match try_kept(task, decide, suspects, chosen, kept, left - size, known)? {
-            Step::Next => {}
-            Step::Again => return Ok(Step::Again),
-            Step::End(end) => return Ok(Step::End(end)),
-        }
+        try_kept(task, decide, suspects, chosen, kept, left - size, known)?;
     }
-    Ok(Step::Next)
+    Ok(())
 }
 
 /// Tries all bodies that begin with the chosen kept terms and one of these of the next function.
@@ -119,7 +112,7 @@ fn try_kept<'a, T: Theory, D: Decide<T>>(
     kept: &'a [Kept<T>],
     left: u32,
     known: &mut Known<T>,
-) -> Result<Step<T, D::Proof, D::Spent>, Want>
+) -> Result<(), Stop<T, D::Proof, D::Spent>>
     requires problem { ProblemFits T.Theory task.now.given.now.problem.now }
     requires banks { AreHonestFor T.Theory task.now.given.now known.old.points task.now.banks.now }
     requires few { length chosen.old.items < length task.now.banks.now }
@@ -129,25 +122,19 @@ fn try_kept<'a, T: Theory, D: Decide<T>>(
     requires known { IsKnownFor T.Theory task.now.given.now known.old }
     requires room { length known.old.stored.items < task.now.given.now.limits.now.rounds }
     ensures chosen { OnOk result (chosen.new.items ≡ chosen.old.items) }
-    ensures known { OnOk result
+    ensures known { UnlessWant result
         (IsKnownFor T.Theory task.now.given.now known.new) }
-    ensures step { IfOk result
-        (GoesFor T.Theory D.Decide task.now.given.now known.old known.new) }
-    ensures refuted { IfOk result (OnNext (All (λ term. AllAreRefutedFor T.Theory task.now.given.now known.old
+    ensures step { GoesFor T.Theory D.Decide task.now.given.now known.old known.new result }
+    ensures refuted { OnOk result (All (λ term. AllAreRefutedFor T.Theory task.now.given.now known.old
         (terms (chosen_of T.denotes chosen.old.items ++ entry_of T.denotes term ∷ []))
-        (drop (length chosen.old.items + 1) (map (merged_of T.denotes) task.now.banks.now)) left) kept.now)) }
+        (drop (length chosen.old.items + 1) (map (merged_of T.denotes) task.now.banks.now)) left) kept.now) }
 {
     for choice in kept {
         chosen.push(choice)?;
-        let step = try_rest(task, decide, suspects, chosen, left, known)?;
+        try_rest(task, decide, suspects, chosen, left, known)?;
         chosen.pop();
-        match step {
-            Step::Next => {}
-            Step::Again => return Ok(Step::Again),
-            Step::End(end) => return Ok(Step::End(end)),
-        }
     }
-    Ok(Step::Next)
+    Ok(())
 }
 
 /// Tries the chosen kept terms as bodies. Where their rows show that they violate the problem at a stored assignment,
@@ -158,7 +145,7 @@ fn try_chosen<T: Theory, D: Decide<T>>(
     suspects: &mut Suspects,
     chosen: &[&Kept<T>],
     known: &mut Known<T>,
-) -> Result<Step<T, D::Proof, D::Spent>, Want>
+) -> Result<(), Stop<T, D::Proof, D::Spent>>
     requires problem { ProblemFits T.Theory task.now.given.now.problem.now }
     requires within { AreWithinFor T.Theory task.now.given.now task.now.level
         (terms (chosen_of T.denotes chosen.now)) }
@@ -166,11 +153,11 @@ fn try_chosen<T: Theory, D: Decide<T>>(
     requires opened { IsOpenFor T.Theory task.now.given.now known.old task.now.level }
     requires known { IsKnownFor T.Theory task.now.given.now known.old }
     requires room { length known.old.stored.items < task.now.given.now.limits.now.rounds }
-    ensures known { OnOk result
+    ensures known { UnlessWant result
         (IsKnownFor T.Theory task.now.given.now known.new) }
-    ensures grows { OnOk result (TuplesGrow known.old.points known.new.points) }
-    ensures step { IfOk result (StepsFor T.Theory D.Decide task.now.given.now
-        (terms (chosen_of T.denotes chosen.now)) known.old known.new) }
+    ensures grows { UnlessWant result (TuplesGrow known.old.points known.new.points) }
+    ensures step { StepsFor T.Theory D.Decide task.now.given.now
+        (terms (chosen_of T.denotes chosen.now)) known.old known.new result }
 {
     let refuted = are_refuted(
         task.given.alloc,
@@ -181,11 +168,10 @@ fn try_chosen<T: Theory, D: Decide<T>>(
         suspects,
     )?;
     if refuted {
-        return Ok(Step::Next);
+        return Ok(());
     }
     let bodies = copied_bodies(task.given.alloc, chosen)?;
-    let step = try_candidate(task.given, decide, bodies, known)?;
-    Ok(step)
+    try_candidate(task.given, decide, bodies, known)
 }
 
 /// Copies of the terms of the chosen.

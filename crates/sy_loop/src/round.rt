@@ -13,7 +13,7 @@ use crate::plan::Plan;
 use crate::trees::try_size;
 use sy_bank_level::Bank;
 use sy_loop_banks::{Banks, dropped_term, take_banks};
-use sy_loop_candidate::{Known, Step};
+use sy_loop_candidate::{Known, Stop};
 use sy_loop_claims::exhausted;
 use sy_loop_spec::{FailCause, Outcome};
 use sy_loop_truth::Search;
@@ -66,13 +66,14 @@ pub(crate) fn run_round<T: Theory, D: Decide<T>>(
         }
     };
     let all = banks.as_slice();
-    match try_size(task, decide, plan, all, level, &mut known)? {
-        Step::Next => {}
-        Step::Again => return Ok(Round::Goes(known, banks, level)),
-        Step::End(end) => {
+    match try_size(task, decide, plan, all, level, &mut known) {
+        Ok(()) => {}
+        Err(Stop::Again) => return Ok(Round::Goes(known, banks, level)),
+        Err(Stop::Ends(end)) => {
             let outcome = ended::<T, D>(task, end, known)?;
             return Ok(Round::Ends(outcome));
         }
+        Err(Stop::Want) => return Err(Want {}),
     }
     let round = after_level::<T, D>(task, functions, known, banks, level)?;
     Ok(round)

@@ -1,10 +1,10 @@
 // The bodies of one size, and then conditional trees over kept terms of sizes up to it.
-ghost use Rattle.std.specs.Prelude.{◌<◌, [], length, map, IfOk, OnOk};
+ghost use Rattle.std.specs.Prelude.{◌<◌, [], length, map, OnOk};
 ghost use Rattle.sy_bank_level.specs.Bank.{merged_of};
 ghost use Rattle.sy_grammar_base.specs.Fits.{ProblemFits};
 ghost use Rattle.sy_loop_candidate.specs.Clauses.{GoesFor, IsKnownFor, IsOpenFor};
 ghost use Rattle.sy_loop.specs.Clauses.{IsPlannedFor};
-ghost use Rattle.sy_loop_candidate.specs.Going.{OnNext};
+ghost use Rattle.sy_loop_candidate.specs.Stopping.{UnlessWant};
 ghost use Rattle.sy_loop.specs.LevelClauses.{AllAreRefutedFor, AreHonestFor};
 ghost use Rattle.sy_loop.specs.RoundClauses.{TreesFollowFor};
 
@@ -12,10 +12,10 @@ use crate::join_trees::try_trees;
 use crate::level::try_level;
 use crate::plan::Plan;
 use sy_bank_level::Bank;
-use sy_loop_candidate::{Known, Step};
+use sy_loop_candidate::{Known, Stop};
 use sy_loop_truth::Search;
 use sy_query_base::Decide;
-use sy_terms::{Theory, Want};
+use sy_terms::Theory;
 
 /// Tries all bodies of kept terms of the banks whose sizes sum to `level`. Where nothing new is learned, conditional
 /// trees over kept terms of sizes up to it are next.
@@ -26,27 +26,22 @@ pub(crate) fn try_size<T: Theory, D: Decide<T>>(
     banks: &[Bank<T>],
     level: u32,
     known: &mut Known<T>,
-) -> Result<Step<T, D::Proof, D::Spent>, Want>
+) -> Result<(), Stop<T, D::Proof, D::Spent>>
     requires problem { ProblemFits T.Theory task.now.problem.now }
     requires plan { IsPlannedFor T.Theory task.now plan.old }
     requires banks { AreHonestFor T.Theory task.now known.old.points banks.now }
     requires opened { IsOpenFor T.Theory task.now known.old level }
     requires known { IsKnownFor T.Theory task.now known.old }
     requires room { length known.old.stored.items < task.now.limits.now.rounds }
-    ensures plan { OnOk result (IsPlannedFor T.Theory task.now plan.new) }
-    ensures known { OnOk result (IsKnownFor T.Theory task.now known.new) }
-    ensures step { IfOk result (GoesFor T.Theory D.Decide task.now known.old known.new) }
-    ensures refuted { IfOk result
-        (OnNext (AllAreRefutedFor T.Theory task.now known.old [] (map (merged_of T.denotes) banks.now) level)) }
-    ensures trees { IfOk result (OnNext (TreesFollowFor T.Theory task.now known.old level banks.now)) }
+    ensures plan { UnlessWant result (IsPlannedFor T.Theory task.now plan.new) }
+    ensures known { UnlessWant result (IsKnownFor T.Theory task.now known.new) }
+    ensures step { GoesFor T.Theory D.Decide task.now known.old known.new result }
+    ensures refuted { OnOk result
+        (AllAreRefutedFor T.Theory task.now known.old [] (map (merged_of T.denotes) banks.now) level) }
+    ensures trees { OnOk result (TreesFollowFor T.Theory task.now known.old level banks.now) }
 {
-    match try_level(task, decide, banks, level, known)? {
-        Step::Next => {}
-        Step::Again => return Ok(Step::Again),
-        Step::End(end) => return Ok(Step::End(end)),
-    }
-    let step = join_kept(task, decide, plan, banks, level, known)?;
-    Ok(step)
+    try_level(task, decide, banks, level, known)?;
+    join_kept(task, decide, plan, banks, level, known)
 }
 
 /// Tries a conditional tree over kept terms of the one function's bank, where there is a plan.
@@ -57,24 +52,23 @@ fn join_kept<T: Theory, D: Decide<T>>(
     banks: &[Bank<T>],
     level: u32,
     known: &mut Known<T>,
-) -> Result<Step<T, D::Proof, D::Spent>, Want>
+) -> Result<(), Stop<T, D::Proof, D::Spent>>
     requires problem { ProblemFits T.Theory task.now.problem.now }
     requires plan { IsPlannedFor T.Theory task.now plan.old }
     requires banks { AreHonestFor T.Theory task.now known.old.points banks.now }
     requires opened { IsOpenFor T.Theory task.now known.old level }
     requires known { IsKnownFor T.Theory task.now known.old }
     requires room { length known.old.stored.items < task.now.limits.now.rounds }
-    ensures plan { OnOk result (IsPlannedFor T.Theory task.now plan.new) }
-    ensures known { OnOk result (IsKnownFor T.Theory task.now known.new) }
-    ensures step { IfOk result (GoesFor T.Theory D.Decide task.now known.old known.new) }
-    ensures trees { IfOk result (OnNext (TreesFollowFor T.Theory task.now known.old level banks.now)) }
+    ensures plan { UnlessWant result (IsPlannedFor T.Theory task.now plan.new) }
+    ensures known { UnlessWant result (IsKnownFor T.Theory task.now known.new) }
+    ensures step { GoesFor T.Theory D.Decide task.now known.old known.new result }
+    ensures trees { OnOk result (TreesFollowFor T.Theory task.now known.old level banks.now) }
 {
     let Some(plan) = plan else {
-        return Ok(Step::Next);
+        return Ok(());
     };
     let Some(bank) = banks.get(0) else {
         unreachable!();
     };
-    let step = try_trees(task, decide, plan, bank, level, known)?;
-    Ok(step)
+    try_trees(task, decide, plan, bank, level, known)
 }

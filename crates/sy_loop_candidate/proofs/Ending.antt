@@ -1,6 +1,6 @@
 -- What comes of a candidate.
 use Rattle.std.proofs.Common.{◌≡◌, ◌<◌, ◌≤◌, ◌+◌, ◌-◌, ◌++◌, ⊎_elim, inl, inr, refl, ap, sym, subst, ◌∙◌, ℕ, zero, suc, Bool, true, false, List, [], ◌∷◌, length, map, take, drop, arith, slice_get, Some, slice_index_or}
-use Rattle.std.specs.Prelude.{◌⊎◌}
+use Rattle.std.specs.Prelude.{◌⊎◌, Result, Ok, Err}
 use Rattle.std.specs.Option.{option_map}
 use Rattle.std.specs.List.{All, Contains}
 use Rattle.std.proofs.lemmas.List.{length-append, length-map, map_push, take-append-drop}
@@ -38,9 +38,9 @@ use Rattle.sy_loop_spec.specs.Truths.{OneLeaves}
 use Rattle.sy_loop_candidate.specs.Steps.{Decides, Steps, StepFollows, IsFollowed, IsTracedOrLeaves}
 use Rattle.sy_terms_operators.specs.Evaluation.{BodiesFit}
 use Rattle.sy_grammar_base.specs.declared.problem.Problem.{Problem}
-use Rattle.sy_loop_candidate.specs.declared.step.Step.{Step}
-use Rattle.sy_loop_candidate.specs.declared.step.Step.TheVariants.{Next, Again}
-use Rattle.sy_loop_candidate.specs.declared.step.Step.TheVariants as steps
+use Rattle.sy_loop_candidate.specs.declared.step.Stop.{Stop}
+use Rattle.sy_loop_candidate.specs.declared.step.Stop.TheVariants.{Again, Ends, Want}
+use Rattle.sy_loop_candidate.specs.Stopping.{UnlessWant}
 use Rattle.sy_loop_truth.proofs.Items.{has_place}
 
 -- bodies within a size are members
@@ -167,27 +167,37 @@ last_fits {T} {N} owned number problem before after values terms place pair is l
     let same : first ≡ pair = cc in
     subst (λ (p : List (Value N) × List (Term T N)). BodiesFit owned number problem.defs p.1 (signatures problem)) same fit
 
-module _ {T P S N : Type 0} (owned : Op → Bool) (number : N → Val) (accepted : Query → P → Type 0) (budget : S → FailName) (shows : Query → Limits → FailName → S → Type 0) (reach : Reach) (question : Question) (limits : Limits)
+module _ {X T P S N : Type 0} (owned : Op → Bool) (number : N → Val) (accepted : Query → P → Type 0) (budget : S → FailName) (shows : Query → Limits → FailName → S → Type 0) (reach : Reach) (question : Question) (limits : Limits)
     (bodies : List Expr) (history history' : List Counterexample) (asked asked' : Asked) where
   -- what comes of a candidate that was stored
-  pub followed : (place : ℕ) (step : Step T P S N) → HasMore reach question limits bodies history history' → place ≡ length history → length history' < limits.rounds → StepFollows owned number accepted budget shows reach question limits place history' asked asked' step →
+  pub followed : (place : ℕ) (step : Result X (Stop T P S N)) → HasMore reach question limits bodies history history' → place ≡ length history → length history' < limits.rounds → StepFollows owned number accepted budget shows reach question limits place history' asked asked' step →
       Decides owned number accepted budget shows reach question limits bodies history asked history' asked' step
-  followed place Next more last few follows = absurd follows
-  followed place Again more last few follows =
+  followed place (Ok x) more last few follows = absurd follows
+  followed place (Err Again) more last few follows =
       let long : length history' ≡ length history + 1 = ap length more.is ∙ length-append history (more.counterexample ∷ []) in
       let it = follows.0 in
       let found : Some more.counterexample ≡ Some it.counterexample =
       sym (at_last history more.counterexample) ∙ ap (λ k. slice_get (history ++ more.counterexample ∷ []) k) (sym last) ∙ ap (λ h. slice_get h place) (sym more.is) ∙ it.at in
       let same : more.counterexample ≡ it.counterexample = cc in
       (omega (arith, long, few, follows.1), record { counterexample = it.counterexample; is = more.is ∙ ap (λ c. history ++ c ∷ []) same; refutes = ap (λ (c : Counterexample). c.bodies) (sym same) ∙ more.refutes; followed = subst (λ b. IsTracedOrLeaves question asked' b it.counterexample.assignment) (ap (λ (c : Counterexample). c.bodies) (sym same) ∙ more.refutes) it.followed }, few)
-  followed place (steps.End end) more last few follows = (follows.0, λ traced. follows.1)
+  followed place (Err (Ends end)) more last few follows = (follows.0, λ traced. follows.1)
+  followed place (Err Want) more last few follows = tt
 
   -- the same of one that is due, where what it asks is known
-  pub traced_step : (step : Step T P S N) → Decides owned number accepted budget shows reach question limits bodies history asked history' asked' step → AreTraced question history asked bodies →
+  pub traced_step : (step : Result X (Stop T P S N)) → Decides owned number accepted budget shows reach question limits bodies history asked history' asked' step → AreTraced question history asked bodies →
       Steps owned number accepted budget shows reach question limits bodies history asked history' asked' step
-  traced_step Next came traced = absurd came
-  traced_step Again came traced = (came.0, inr came.1, came.2)
-  traced_step (steps.End end) came traced = (came.0, came.1 traced)
+  traced_step (Ok x) came traced = absurd came
+  traced_step (Err Again) came traced = (came.0, inr came.1, came.2)
+  traced_step (Err (Ends end)) came traced = (came.0, came.1 traced)
+  traced_step (Err Want) came traced = tt
+
+  -- what is shown of one that was stored by what holds unless memory runs out
+  pub decides_unless : (A : Type 0) (step : Result X (Stop T P S N)) → UnlessWant step A → (A → Decides owned number accepted budget shows reach question limits bodies history asked history' asked' step) →
+      Decides owned number accepted budget shows reach question limits bodies history asked history' asked' step
+  decides_unless A (Ok x) fact then = then fact
+  decides_unless A (Err Again) fact then = then fact
+  decides_unless A (Err (Ends end)) fact then = then fact
+  decides_unless A (Err Want) fact then = tt
 
 -- what a function has
 bounded_at : (limit : ℕ) (lists : List (List (List Val))) (function : ℕ) → All (λ tuples. AreDistinct tuples × (length tuples ≤ limit)) lists → AreDistinct (slice_index_or lists function []) × (length (slice_index_or lists function []) ≤ limit)

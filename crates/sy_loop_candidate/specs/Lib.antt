@@ -5,3 +5,4 @@ pub mod Going
 pub mod Observing
 pub mod Refuting
 pub mod Steps
+pub mod Stopping

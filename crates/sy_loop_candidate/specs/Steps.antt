@@ -1,5 +1,5 @@
 -- What comes of a candidate.
-use Rattle.std.specs.Prelude.{ℕ, Bool, ◌≡◌, ◌<◌, ◌≤◌, ◌⊎◌, List, [], ◌∷◌, ◌++◌, length, map, slice_get, Some}
+use Rattle.std.specs.Prelude.{ℕ, Bool, ◌≡◌, ◌<◌, ◌≤◌, ◌⊎◌, List, [], ◌∷◌, ◌++◌, Result, Ok, Err, length, map, slice_get, Some}
 use Rattle.std.specs.Option.{option_map}
 use Rattle.sy_terms.specs.Values.{Val}
 use Rattle.sy_terms.specs.Expr.{Expr}
@@ -24,9 +24,8 @@ use Rattle.sy_loop_spec.specs.Trials.{IsRefuted}
 use Rattle.sy_loop_spec.specs.Truths.{OneLeaves}
 use Rattle.sy_loop_candidate.specs.declared.step.End.{End}
 use Rattle.sy_loop_candidate.specs.declared.step.End.TheVariants.{Found, Rounds, Points, Weight, Decide, Checked}
-use Rattle.sy_loop_candidate.specs.declared.step.Step.{Step}
-use Rattle.sy_loop_candidate.specs.declared.step.Step.TheVariants.{Next, Again}
-use Rattle.sy_loop_candidate.specs.declared.step.Step.TheVariants as steps
+use Rattle.sy_loop_candidate.specs.declared.step.Stop.{Stop}
+use Rattle.sy_loop_candidate.specs.declared.step.Stop.TheVariants as stops
 
 -- the values are the stored assignment of this place
 abbrev pub IsStoredAt : {T N : Type 0} → (N → Val) → Stored T N → ℕ → List (Value N) → Type 0
@@ -70,21 +69,23 @@ pub record IsStored (question : Question) (bodies : List Expr) (before after : L
   pub followed : IsTracedOrLeaves question asked bodies counterexample.assignment
 
 -- what comes of a candidate, by what is known before and after it
-abbrev pub Steps : {T P S N : Type 0} → (Op → Bool) → (N → Val) → (Query → P → Type 0) → (S → FailName) → (Query → Limits → FailName → S → Type 0) → Reach → Question → Limits → List Expr → List Counterexample → Asked → List Counterexample → Asked → Step T P S N → Type 0
-Steps owned number accepted budget shows reach question limits bodies history asked history' asked' Next =
+abbrev pub Steps : {X T P S N : Type 0} → (Op → Bool) → (N → Val) → (Query → P → Type 0) → (S → FailName) → (Query → Limits → FailName → S → Type 0) → Reach → Question → Limits → List Expr → List Counterexample → Asked → List Counterexample → Asked → Result X (Stop T P S N) → Type 0
+Steps owned number accepted budget shows reach question limits bodies history asked history' asked' (Ok x) =
     IsRefuted question history asked bodies × (history' ≡ history) × (asked' ≡ asked)
-Steps owned number accepted budget shows reach question limits bodies history asked history' asked' Again =
+Steps owned number accepted budget shows reach question limits bodies history asked history' asked' (Err stops.Again) =
     (left limits history' asked' < left limits history asked) × ((history' ≡ history) ⊎ IsStored question bodies history history' asked') × (length history' < limits.rounds)
-Steps owned number accepted budget shows reach question limits bodies history asked history' asked' (steps.End end) =
+Steps owned number accepted budget shows reach question limits bodies history asked history' asked' (Err (stops.Ends end)) =
     IsCandidateEnd owned number accepted budget shows reach question limits history' asked' end × IsTracedEnd number question history' asked' end
+Steps owned number accepted budget shows reach question limits bodies history asked history' asked' (Err stops.Want) = Unit {0}
 
 -- what comes of bodies that are due. What they ask at the history's assignments needn't be known; where it is, it is at the end
-abbrev pub Decides : {T P S N : Type 0} → (Op → Bool) → (N → Val) → (Query → P → Type 0) → (S → FailName) → (Query → Limits → FailName → S → Type 0) → Reach → Question → Limits → List Expr → List Counterexample → Asked → List Counterexample → Asked → Step T P S N → Type 0
-Decides owned number accepted budget shows reach question limits bodies history asked history' asked' Next = ⊥
-Decides owned number accepted budget shows reach question limits bodies history asked history' asked' Again =
+abbrev pub Decides : {X T P S N : Type 0} → (Op → Bool) → (N → Val) → (Query → P → Type 0) → (S → FailName) → (Query → Limits → FailName → S → Type 0) → Reach → Question → Limits → List Expr → List Counterexample → Asked → List Counterexample → Asked → Result X (Stop T P S N) → Type 0
+Decides owned number accepted budget shows reach question limits bodies history asked history' asked' (Ok x) = ⊥
+Decides owned number accepted budget shows reach question limits bodies history asked history' asked' (Err stops.Again) =
     (left limits history' asked' < left limits history asked) × IsStored question bodies history history' asked' × (length history' < limits.rounds)
-Decides owned number accepted budget shows reach question limits bodies history asked history' asked' (steps.End end) =
+Decides owned number accepted budget shows reach question limits bodies history asked history' asked' (Err (stops.Ends end)) =
     IsCandidateEnd owned number accepted budget shows reach question limits history' asked' end × (AreTraced question history asked bodies → IsTracedEnd number question history' asked' end)
+Decides owned number accepted budget shows reach question limits bodies history asked history' asked' (Err stops.Want) = Unit {0}
 
 -- the same of the stored bodies of a place, at their assignment
 pub record IsFollowed (question : Question) (history : List Counterexample) (asked : Asked) (place : ℕ) : Type 0 where
@@ -93,8 +94,9 @@ pub record IsFollowed (question : Question) (history : List Counterexample) (ask
   pub followed : IsTracedOrLeaves question asked counterexample.bodies counterexample.assignment
 
 -- what comes of the stored bodies of a place
-abbrev pub StepFollows : {T P S N : Type 0} → (Op → Bool) → (N → Val) → (Query → P → Type 0) → (S → FailName) → (Query → Limits → FailName → S → Type 0) → Reach → Question → Limits → ℕ → List Counterexample → Asked → Asked → Step T P S N → Type 0
-StepFollows owned number accepted budget shows reach question limits place history asked asked' Next = ⊥
-StepFollows owned number accepted budget shows reach question limits place history asked asked' Again = IsFollowed question history asked' place × (room asked' ≤ room asked)
-StepFollows owned number accepted budget shows reach question limits place history asked asked' (steps.End end) =
+abbrev pub StepFollows : {X T P S N : Type 0} → (Op → Bool) → (N → Val) → (Query → P → Type 0) → (S → FailName) → (Query → Limits → FailName → S → Type 0) → Reach → Question → Limits → ℕ → List Counterexample → Asked → Asked → Result X (Stop T P S N) → Type 0
+StepFollows owned number accepted budget shows reach question limits place history asked asked' (Ok x) = ⊥
+StepFollows owned number accepted budget shows reach question limits place history asked asked' (Err stops.Again) = IsFollowed question history asked' place × (room asked' ≤ room asked)
+StepFollows owned number accepted budget shows reach question limits place history asked asked' (Err (stops.Ends end)) =
     IsCandidateEnd owned number accepted budget shows reach question limits history asked' end × IsTracedEnd number question history asked' end
+StepFollows owned number accepted budget shows reach question limits place history asked asked' (Err stops.Want) = Unit {0}

@@ -1,23 +1,24 @@
 // Candidates that meet the problem at every stored assignment.
-ghost use Rattle.std.specs.Prelude.{◌≡◌, ◌<◌, length, map, IfOk, OnOk, slice_get, Some};
+ghost use Rattle.std.specs.Prelude.{◌≡◌, ◌<◌, length, map, IfOk, slice_get, Some};
 ghost use Rattle.sy_terms.specs.Denoted.{expr_of};
 ghost use Rattle.sy_loop_truth.specs.Traces.{TuplesGrow};
 ghost use Rattle.sy_grammar_base.specs.Fits.{ProblemFits};
 ghost use Rattle.sy_query_base.specs.Asked.{QueryFits, query_of};
 ghost use Rattle.sy_query_base.specs.Answers.{Answers};
 ghost use Rattle.sy_loop_candidate.specs.Clauses.{DecidesFor, IsKnownFor, StepFollowsFor, IsDueFor};
+ghost use Rattle.sy_loop_candidate.specs.Stopping.{UnlessWant};
 ghost use Rattle.sy_loop_truth.specs.Clauses.{FitAsBodies};
 
 use crate::asks::ask_at;
 use crate::copies::{assignment_at, copied_bodies};
-use crate::step::{End, Known, Step};
+use crate::step::{End, Known, Stop};
 use std::alloc::Global;
 use sy_loop_truth::{Adding, Search};
 use sy_query::{Built, build};
 use sy_query_base::{Decide, Limits, Query, Verdict};
 use sy_terms::{Bodies, Theory, Want};
 
-/// Decides the query of bodies that are due, without a look at the stored assignments. An assignment that violates the
+/// Decides the query of bodies that are due, without a look at the stored assignments: why no further one is tried. An assignment that violates the
 /// problem is stored. Where there may be more of them, what the bodies ask there is added to the points. `Want` comes
 /// where memory runs out, where 32 bits don't count a position of the query, and where `decide` answers it; nothing is
 /// promised of what is known then.
@@ -26,34 +27,33 @@ pub fn decide_due<T: Theory, D: Decide<T>>(
     decide: &mut D,
     bodies: Bodies<T>,
     known: &mut Known<T>,
-) -> Result<Step<T, D::Proof, D::Spent>, Want>
+) -> Result<(), Stop<T, D::Proof, D::Spent>>
     requires problem { ProblemFits T.Theory task.now.problem.now }
     requires bodies { FitAsBodies T.Theory task.now.problem.now bodies }
     requires known { IsKnownFor T.Theory task.now known.old }
     requires room { length known.old.stored.items < task.now.limits.now.rounds }
     requires due { IsDueFor T.Theory task.now known.old (map (expr_of T.denotes) bodies) }
-    ensures known { OnOk result (IsKnownFor T.Theory task.now known.new) }
-    ensures grows { OnOk result (TuplesGrow known.old.points known.new.points) }
-    ensures step { IfOk result (DecidesFor T.Theory D.Decide task.now
-        (map (expr_of T.denotes) bodies) known.old known.new) }
+    ensures known { UnlessWant result (IsKnownFor T.Theory task.now known.new) }
+    ensures grows { UnlessWant result (TuplesGrow known.old.points known.new.points) }
+    ensures step { DecidesFor T.Theory D.Decide task.now
+        (map (expr_of T.denotes) bodies) known.old known.new result }
 {
     let query = match build(task.alloc, task.problem, &bodies, task.limits.weight) {
         Ok(query) => query,
-        Err(Built::Heavy) => return Ok(Step::End(End::Weight(bodies))),
-        Err(Built::Want) => return Err(Want {}),
+        Err(Built::Heavy) => return Err(Stop::Ends(End::Weight(bodies))),
+        Err(Built::Want) => return Err(Stop::Want),
     };
     match decide_query(task.alloc, task.limits, decide, query)? {
-        Verdict::Never(proof) => Ok(Step::End(End::Found(bodies, proof))),
+        Verdict::Never(proof) => Err(Stop::Ends(End::Found(bodies, proof))),
         Verdict::Model(values) => {
             let place = known.stored.len();
             known.stored.push(values, bodies)?;
             if known.stored.len() >= task.limits.rounds as usize {
-                return Ok(Step::End(End::Rounds));
+                return Err(Stop::Ends(End::Rounds));
             }
-            let step = follow::<T, D>(task, place, known)?;
-            Ok(step)
+            follow::<T, D>(task, place, known)
         }
-        Verdict::Spent(spent) => Ok(Step::End(End::Decide(bodies, spent))),
+        Verdict::Spent(spent) => Err(Stop::Ends(End::Decide(bodies, spent))),
     }
 }
 
@@ -77,18 +77,17 @@ fn follow<T: Theory, D: Decide<T>>(
     task: &Search<T>,
     place: usize,
     known: &mut Known<T>,
-) -> Result<Step<T, D::Proof, D::Spent>, Want>
+) -> Result<(), Stop<T, D::Proof, D::Spent>>
     requires problem { ProblemFits T.Theory task.now.problem.now }
     requires bodies { (pair : _) → slice_get known.old.stored.items place ≡ Some pair →
         FitAsBodies T.Theory task.now.problem.now pair.1 }
     requires place { place < length known.old.stored.items }
     requires room { length known.old.stored.items < task.now.limits.now.rounds }
     requires known { IsKnownFor T.Theory task.now known.old }
-    ensures stored { OnOk result (known.new.stored ≡ known.old.stored) }
-    ensures known { OnOk result (IsKnownFor T.Theory task.now known.new) }
-    ensures grows { OnOk result (TuplesGrow known.old.points known.new.points) }
-    ensures step { IfOk result
-        (StepFollowsFor T.Theory D.Decide task.now place known.old.points known.new) }
+    ensures stored { UnlessWant result (known.new.stored ≡ known.old.stored) }
+    ensures known { UnlessWant result (IsKnownFor T.Theory task.now known.new) }
+    ensures grows { UnlessWant result (TuplesGrow known.old.points known.new.points) }
+    ensures step { StepFollowsFor T.Theory D.Decide task.now place known.old.points known.new result }
 {
     let Some((_, bodies)) = known.stored.get(place) else {
         unreachable!();
@@ -103,15 +102,15 @@ fn follow<T: Theory, D: Decide<T>>(
         &mut known.points,
     )?;
     let Some(adding) = asked else {
-        return Ok(Step::Again);
+        return Err(Stop::Again);
     };
     match adding {
-        Adding::There => Ok(Step::Again),
-        Adding::New => Ok(Step::Again),
+        Adding::There => Err(Stop::Again),
+        Adding::New => Err(Stop::Again),
         Adding::Full(function) => {
             let copy = copied_bodies(task.alloc, bodies)?;
             let assignment = assignment_at(task.alloc, &known.stored, place)?;
-            Ok(Step::End(End::Points(function, copy, assignment)))
+            Err(Stop::Ends(End::Points(function, copy, assignment)))
         }
     }
 }

@@ -15,5 +15,5 @@ mod trial;
 pub use copies::copied_bodies;
 pub use due::{decide_due, decide_query};
 pub use refute::are_refuted;
-pub use step::{End, Known, Step, try_candidate};
+pub use step::{End, Known, Stop, try_candidate};
 pub use suspects::Suspects;

@@ -1,4 +1,4 @@
-use Rattle.std.proofs.Common.{arith, ap, length, Result, Ok, Err, OnOk}
+use Rattle.std.proofs.Common.{arith, ap, length}
 use Rattle.std.proofs.lemmas.List.{length-map}
 use Rattle.std.proofs.lemmas.Result.{IfOk-from_err}
 use Rattle.sy_terms.specs.Denoted.{vals_of}
@@ -10,12 +10,8 @@ use Rattle.sy_loop_spec.proofs.Refuted.{assumes_nothing}
 use Rattle.sy_loop.proofs.JoinFollowing.{none_follow}
 use Rattle.sy_loop.proofs.Joining.{tuples_at}
 use Rattle.sy_loop.proofs.Planning.{with_memo}
+use Rattle.sy_loop_candidate.proofs.Going.{goes_on, known_always, known_on}
 use Rattle.sy_loop.proofs.join.join.Goals as goal
-
--- what is known anyway is so where the answer is `Ok`
-on_ok : {X E : Type 0} {P : Type 0} (r : Result X E) → P → OnOk r P
-on_ok (Ok x) p = p
-on_ok (Err e) p = tt
 
 pub returns-then-len-eq0-clause-trees : goal.returns-then-len-eq0-clause-trees
 returns-then-len-eq0-clause-trees g c =
@@ -29,7 +25,7 @@ pub join_parts-requires-clause-plan : goal.join_parts-requires-clause-plan
 join_parts-requires-clause-plan g c = with_memo g.T.Theory.denotes c.args.task.now.reach (question_of g.T.Theory.denotes c.args.task.now.problem.now) c.args.plan.now c.parts_of.new.memo c.requires.plan c.in_ok-parts.ensures.memo
 
 pub returns-clause-plan : goal.returns-clause-plan
-returns-clause-plan g c = on_ok c.join_parts.result (with_memo g.T.Theory.denotes c.args.task.now.reach (question_of g.T.Theory.denotes c.args.task.now.problem.now) c.args.plan.now c.parts_of.new.memo c.requires.plan c.in_ok-parts.ensures.memo)
+returns-clause-plan g c = known_always _ c.join_parts.result (with_memo g.T.Theory.denotes c.args.task.now.reach (question_of g.T.Theory.denotes c.args.task.now.problem.now) c.args.plan.now c.parts_of.new.memo c.requires.plan c.in_ok-parts.ensures.memo)
 
 pub returns-clause-known : goal.returns-clause-known
 returns-clause-known g c = c.join_parts.ensures.known
@@ -41,13 +37,13 @@ pub returns-clause-trees : goal.returns-clause-trees
 returns-clause-trees g c = c.join_parts.ensures.trees
 
 pub returns-in_err-parts-clause-plan : goal.returns-in_err-parts-clause-plan
-returns-in_err-parts-clause-plan g c = IfOk-from_err c.from_residual.result _ c.from_residual.ensures.0
+returns-in_err-parts-clause-plan g c = known_on _ c.from_residual.result _ c.from_residual.ensures.1 tt
 
 pub returns-in_err-parts-clause-known : goal.returns-in_err-parts-clause-known
-returns-in_err-parts-clause-known g c = IfOk-from_err c.from_residual.result _ c.from_residual.ensures.0
+returns-in_err-parts-clause-known g c = known_on _ c.from_residual.result _ c.from_residual.ensures.1 tt
 
 pub returns-in_err-parts-clause-step : goal.returns-in_err-parts-clause-step
-returns-in_err-parts-clause-step g c = IfOk-from_err c.from_residual.result _ c.from_residual.ensures.0
+returns-in_err-parts-clause-step g c = goes_on _ _ _ _ _ _ _ _ _ _ _ _ c.from_residual.result _ c.from_residual.ensures.1 tt
 
 pub returns-in_err-parts-clause-trees : goal.returns-in_err-parts-clause-trees
 returns-in_err-parts-clause-trees g c = IfOk-from_err c.from_residual.result _ c.from_residual.ensures.0

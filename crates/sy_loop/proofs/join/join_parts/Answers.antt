@@ -12,6 +12,7 @@ use Rattle.sy_loop_spec.specs.Histories.{Counterexample}
 use Rattle.sy_loop_spec.specs.Stored.{counterexample_of, history_of}
 use Rattle.sy_loop_candidate.proofs.Ending.{room_in}
 use Rattle.sy_loop.proofs.Joining.{leaf_leaves}
+use Rattle.sy_loop_candidate.proofs.Going.{goes_on, known_on}
 use Rattle.sy_loop.proofs.join.join_parts.Goals as goal
 
 pub copied_leaf-requires-clause-leaf : goal.copied_leaf-requires-clause-leaf
@@ -24,7 +25,7 @@ pub copied_leaf-requires-clause-place : goal.copied_leaf-requires-clause-place
 copied_leaf-requires-clause-place g c =
     let number = g.T.Theory.denotes in
     let leaving = rw c.in-Some.is at c.requires.parts.leaving in
-    let goes = rw c.in-Next.is at c.in_ok-try_parts.ensures.step in
+    let goes = c.in_ok-try_parts.ensures.step in
     omega (arith, slice_get_within (history_of number c.args.known.now.stored) c.in-Some.leaving.place leaving.leaves_at.counterexample leaving.leaves_at.at, ap length goes.0, length-map c.args.known.now.stored.items (counterexample_of number), length-map c.try_parts.new.known.stored.items (counterexample_of number))
 
 pub returns-clause-step : goal.returns-clause-step
@@ -34,7 +35,7 @@ returns-clause-step g c =
     let history = history_of number c.args.known.now.stored in
     let parts = c.args.parts.now in
     let leaving = rw c.in-Some.is at c.requires.parts.leaving in
-    let goes = rw c.in-Next.is at c.in_ok-try_parts.ensures.step in
+    let goes = c.in_ok-try_parts.ensures.step in
     let left = rw c.as_slice.ensures.value at c.in_ok-bodies.ensures in
     let assigned : option_map (λ (k : Counterexample). k.assignment) (slice_get history c.in-Some.leaving.place) ≡ Some (vals_of number c.in_ok-bodies.assignment) =
     subst (λ h. option_map (λ (k : Counterexample). k.assignment) (slice_get h c.in-Some.leaving.place) ≡ Some (vals_of number c.in_ok-bodies.assignment)) goes.0 left.assigned in
@@ -44,34 +45,22 @@ returns-clause-step g c =
     (subst (λ bodies. CheckedLeaves c.args.task.now.reach question c.args.task.now.limits.now.size c.args.task.now.limits.now.rounds history bodies (vals_of number c.in_ok-bodies.assignment)) (sym left.bodies_are) leaves)
 
 pub returns-in_err-try_parts-clause-known : goal.returns-in_err-try_parts-clause-known
-returns-in_err-try_parts-clause-known g c = IfOk-from_err c.from_residual.result _ c.from_residual.ensures.0
+returns-in_err-try_parts-clause-known g c = known_on _ c.from_residual.result _ c.from_residual.ensures.1 c.in_err-try_parts.ensures.known
 
 pub returns-in_err-try_parts-clause-step : goal.returns-in_err-try_parts-clause-step
-returns-in_err-try_parts-clause-step g c = IfOk-from_err c.from_residual.result _ c.from_residual.ensures.0
+returns-in_err-try_parts-clause-step g c = goes_on _ _ _ _ _ _ _ _ _ _ _ _ c.from_residual.result _ c.from_residual.ensures.1 c.in_err-try_parts.ensures.step
 
 pub returns-in_err-try_parts-clause-trees : goal.returns-in_err-try_parts-clause-trees
 returns-in_err-try_parts-clause-trees g c = IfOk-from_err c.from_residual.result _ c.from_residual.ensures.0
 
 pub returns-in_err-bodies-clause-known : goal.returns-in_err-bodies-clause-known
-returns-in_err-bodies-clause-known g c = IfOk-from_err c.from_residual-in_err-bodies.result _ c.from_residual-in_err-bodies.ensures.0
+returns-in_err-bodies-clause-known g c = known_on _ c.from_residual-in_err-bodies.result _ c.from_residual-in_err-bodies.ensures.1 tt
 
 pub returns-in_err-bodies-clause-step : goal.returns-in_err-bodies-clause-step
-returns-in_err-bodies-clause-step g c = IfOk-from_err c.from_residual-in_err-bodies.result _ c.from_residual-in_err-bodies.ensures.0
+returns-in_err-bodies-clause-step g c = goes_on _ _ _ _ _ _ _ _ _ _ _ _ c.from_residual-in_err-bodies.result _ c.from_residual-in_err-bodies.ensures.1 tt
 
 pub returns-in_err-bodies-clause-trees : goal.returns-in_err-bodies-clause-trees
 returns-in_err-bodies-clause-trees g c = IfOk-from_err c.from_residual-in_err-bodies.result _ c.from_residual-in_err-bodies.ensures.0
-
-pub returns-in-Again-clause-step : goal.returns-in-Again-clause-step
-returns-in-Again-clause-step g c = rw c.in-Again.is at c.in_ok-try_parts.ensures.step
-
-pub returns-in-End-clause-step : goal.returns-in-End-clause-step
-returns-in-End-clause-step g c = rw c.in-End.is at c.in_ok-try_parts.ensures.step
-
-pub returns-in-Again-clause-known : goal.returns-in-Again-clause-known
-returns-in-Again-clause-known g c = c.in_ok-try_parts.ensures.known
-
-pub returns-in-End-clause-known : goal.returns-in-End-clause-known
-returns-in-End-clause-known g c = c.in_ok-try_parts.ensures.known
 
 pub returns-in_default-clause-known : goal.returns-in_default-clause-known
 returns-in_default-clause-known g c = c.in_ok-try_parts.ensures.known
@@ -79,14 +68,8 @@ returns-in_default-clause-known g c = c.in_ok-try_parts.ensures.known
 pub returns-clause-known : goal.returns-clause-known
 returns-clause-known g c = c.in_ok-try_parts.ensures.known
 
-pub returns-in-Again-clause-trees : goal.returns-in-Again-clause-trees
-returns-in-Again-clause-trees g c = tt
-
-pub returns-in-End-clause-trees : goal.returns-in-End-clause-trees
-returns-in-End-clause-trees g c = tt
-
 pub returns-clause-trees : goal.returns-clause-trees
 returns-clause-trees g c = tt
 
 pub returns-in_default-clause-step : goal.returns-in_default-clause-step
-returns-in_default-clause-step g c = rw c.in-Next.is at c.in_ok-try_parts.ensures.step
+returns-in_default-clause-step g c = c.in_ok-try_parts.ensures.step

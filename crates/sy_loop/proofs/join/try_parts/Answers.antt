@@ -11,7 +11,7 @@ use Rattle.sy_loop_spec.specs.Trials.{IsRefuted}
 use Rattle.sy_loop_spec.proofs.Refuted.{assumes_nothing}
 use Rattle.sy_loop.specs.Applying.{has_application, are_known}
 use Rattle.sy_loop.specs.Joining.{TreesFollowFrom}
-use Rattle.sy_loop_candidate.proofs.Going.{next_weaker}
+use Rattle.sy_loop_candidate.proofs.Going.{goes_on, known_on, next_weaker}
 use Rattle.sy_loop.proofs.Joining.{same_rule, tree_candidate}
 use Rattle.sy_loop.proofs.JoinFollowing.{served_follow, uncovered_follow}
 use Rattle.sy_loop.proofs.Meeting.{each_applies, none_leaves, tree_meets}
@@ -63,43 +63,34 @@ returns-clause-trees g c =
     let bank = c.requires.bank in
     let serves = rw c.in-Tree.is at c.in_ok-unify.ensures.joined in
     let body = expr_of number c.in_ok-term-in-Tree.term in
-    next_weaker (IsRefuted question history c.args.known.now.points (body ∷ [])) (parts.goods.leaving ≡ None → TreesFollowFrom c.args.task.now.reach question history c.args.known.now.points c.args._level (merged_of number c.args._bank.now)) c.in_ok-step-in-Tree.step
+    next_weaker (IsRefuted question history c.args.known.now.points (body ∷ [])) (parts.goods.leaving ≡ None → TreesFollowFrom c.args.task.now.reach question history c.args.known.now.points c.args._level (merged_of number c.args._bank.now)) c.try_tree.result
     (λ refuted none.
     served_follow c.args.task.now.reach question c.args.task.now.limits.now history c.args.known.now.points (assumes_nothing g.T.Theory.owned question c.requires.problem.assumptions) c.args._level (merged_of number c.args._bank.now)
     c.requires.known plan.pointwise bank c.args.plan.now.condition plan.rule parts.points (chosen_of number parts.leaves.items) (chosen_of number parts.conditions.items) parts.goods parts.rows
     (same_rule question plan.goal bank.goal plan.rule c.args.plan.now.condition plan.at bank.at plan.chooses) c.requires.parts (c.requires.parts.good none) c.in-Tree.choice body serves.0
     (rw (c.as_slice-leaves.ensures.value, c.as_slice.ensures.value) at c.in_ok-term-in-Tree.ensures) refuted)
-    c.in_ok-step-in-Tree.ensures.refuted
+    c.try_tree.ensures.refuted
 
 pub returns-in_err-unify-clause-known : goal.returns-in_err-unify-clause-known
-returns-in_err-unify-clause-known g c = IfOk-from_err c.from_residual.result _ c.from_residual.ensures.0
+returns-in_err-unify-clause-known g c = known_on _ c.from_residual.result _ c.from_residual.ensures.1 tt
 
 pub returns-in_err-unify-clause-step : goal.returns-in_err-unify-clause-step
-returns-in_err-unify-clause-step g c = IfOk-from_err c.from_residual.result _ c.from_residual.ensures.0
+returns-in_err-unify-clause-step g c = goes_on _ _ _ _ _ _ _ _ _ _ _ _ c.from_residual.result _ c.from_residual.ensures.1 tt
 
 pub returns-in_err-unify-clause-trees : goal.returns-in_err-unify-clause-trees
 returns-in_err-unify-clause-trees g c = IfOk-from_err c.from_residual.result _ c.from_residual.ensures.0
 
 pub returns-in_err-term-in-Tree-clause-known : goal.returns-in_err-term-in-Tree-clause-known
-returns-in_err-term-in-Tree-clause-known g c = IfOk-from_err c.from_residual-in_err-term-in-Tree.result _ c.from_residual-in_err-term-in-Tree.ensures.0
+returns-in_err-term-in-Tree-clause-known g c = known_on _ c.from_residual-in_err-term-in-Tree.result _ c.from_residual-in_err-term-in-Tree.ensures.1 tt
 
 pub returns-in_err-term-in-Tree-clause-step : goal.returns-in_err-term-in-Tree-clause-step
-returns-in_err-term-in-Tree-clause-step g c = IfOk-from_err c.from_residual-in_err-term-in-Tree.result _ c.from_residual-in_err-term-in-Tree.ensures.0
+returns-in_err-term-in-Tree-clause-step g c = goes_on _ _ _ _ _ _ _ _ _ _ _ _ c.from_residual-in_err-term-in-Tree.result _ c.from_residual-in_err-term-in-Tree.ensures.1 tt
 
 pub returns-in_err-term-in-Tree-clause-trees : goal.returns-in_err-term-in-Tree-clause-trees
 returns-in_err-term-in-Tree-clause-trees g c = IfOk-from_err c.from_residual-in_err-term-in-Tree.result _ c.from_residual-in_err-term-in-Tree.ensures.0
 
-pub returns-in_err-step-in-Tree-clause-known : goal.returns-in_err-step-in-Tree-clause-known
-returns-in_err-step-in-Tree-clause-known g c = IfOk-from_err c.from_residual-in_err-step-in-Tree.result _ c.from_residual-in_err-step-in-Tree.ensures.0
-
-pub returns-in_err-step-in-Tree-clause-step : goal.returns-in_err-step-in-Tree-clause-step
-returns-in_err-step-in-Tree-clause-step g c = IfOk-from_err c.from_residual-in_err-step-in-Tree.result _ c.from_residual-in_err-step-in-Tree.ensures.0
-
-pub returns-in_err-step-in-Tree-clause-trees : goal.returns-in_err-step-in-Tree-clause-trees
-returns-in_err-step-in-Tree-clause-trees g c = IfOk-from_err c.from_residual-in_err-step-in-Tree.result _ c.from_residual-in_err-step-in-Tree.ensures.0
-
 pub returns-clause-known : goal.returns-clause-known
-returns-clause-known g c = c.in_ok-step-in-Tree.ensures.known
+returns-clause-known g c = c.try_tree.ensures.known
 
 pub returns-clause-step : goal.returns-clause-step
-returns-clause-step g c = c.in_ok-step-in-Tree.ensures.step
+returns-clause-step g c = c.try_tree.ensures.step

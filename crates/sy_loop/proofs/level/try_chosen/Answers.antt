@@ -1,5 +1,4 @@
 use Rattle.std.proofs.Common.{refl, sym, subst, map}
-use Rattle.std.proofs.lemmas.Result.{IfOk-from_err}
 use Rattle.sy_terms.specs.Denoted.{expr_of}
 use Rattle.sy_grammar_base.specs.Questions.{question_of}
 use Rattle.sy_grammar_base.specs.Solving.{AreWithin}
@@ -9,6 +8,7 @@ use Rattle.sy_loop_spec.proofs.Staying.{may_try}
 use Rattle.sy_loop_spec.specs.Stored.{history_of}
 use Rattle.sy_loop_candidate.proofs.Asking.{grows_not}
 use Rattle.sy_loop.proofs.Observed.{candidate_fits, chosen_fit, rows_are, assignments_are}
+use Rattle.sy_loop_candidate.proofs.Going.{known_on, steps_on}
 use Rattle.sy_loop.proofs.level.try_chosen.Goals as goal
 
 pub are_refuted-requires-clause-bodies : goal.are_refuted-requires-clause-bodies
@@ -46,28 +46,22 @@ pub returns-then-refuted-clause-grows : goal.returns-then-refuted-clause-grows
 returns-then-refuted-clause-grows g c = grows_not c.args.known.now.points
 
 pub returns-in_err-refuted-clause-known : goal.returns-in_err-refuted-clause-known
-returns-in_err-refuted-clause-known g c = IfOk-from_err c.from_residual.result _ c.from_residual.ensures.0
+returns-in_err-refuted-clause-known g c = known_on _ c.from_residual.result _ c.from_residual.ensures.1 tt
 
 pub returns-in_err-refuted-clause-grows : goal.returns-in_err-refuted-clause-grows
-returns-in_err-refuted-clause-grows g c = IfOk-from_err c.from_residual.result _ c.from_residual.ensures.0
+returns-in_err-refuted-clause-grows g c = known_on _ c.from_residual.result _ c.from_residual.ensures.1 tt
 
 pub returns-in_err-refuted-clause-step : goal.returns-in_err-refuted-clause-step
-returns-in_err-refuted-clause-step g c = IfOk-from_err c.from_residual.result _ c.from_residual.ensures.0
+returns-in_err-refuted-clause-step g c = steps_on _ _ _ _ _ _ _ _ _ _ _ _ _ c.from_residual.result _ c.from_residual.ensures.1 tt
 
 pub returns-in_err-bodies-clause-known : goal.returns-in_err-bodies-clause-known
-returns-in_err-bodies-clause-known g c = IfOk-from_err c.from_residual-in_err-bodies.result _ c.from_residual-in_err-bodies.ensures.0
+returns-in_err-bodies-clause-known g c = known_on _ c.from_residual-in_err-bodies.result _ c.from_residual-in_err-bodies.ensures.1 tt
 
 pub returns-in_err-bodies-clause-grows : goal.returns-in_err-bodies-clause-grows
-returns-in_err-bodies-clause-grows g c = IfOk-from_err c.from_residual-in_err-bodies.result _ c.from_residual-in_err-bodies.ensures.0
+returns-in_err-bodies-clause-grows g c = known_on _ c.from_residual-in_err-bodies.result _ c.from_residual-in_err-bodies.ensures.1 tt
 
 pub returns-in_err-bodies-clause-step : goal.returns-in_err-bodies-clause-step
-returns-in_err-bodies-clause-step g c = IfOk-from_err c.from_residual-in_err-bodies.result _ c.from_residual-in_err-bodies.ensures.0
+returns-in_err-bodies-clause-step g c = steps_on _ _ _ _ _ _ _ _ _ _ _ _ _ c.from_residual-in_err-bodies.result _ c.from_residual-in_err-bodies.ensures.1 tt
 
-pub returns-in_err-step-clause-known : goal.returns-in_err-step-clause-known
-returns-in_err-step-clause-known g c = IfOk-from_err c.from_residual-in_err-step.result _ c.from_residual-in_err-step.ensures.0
-
-pub returns-in_err-step-clause-grows : goal.returns-in_err-step-clause-grows
-returns-in_err-step-clause-grows g c = IfOk-from_err c.from_residual-in_err-step.result _ c.from_residual-in_err-step.ensures.0
-
-pub returns-in_err-step-clause-step : goal.returns-in_err-step-clause-step
-returns-in_err-step-clause-step g c = IfOk-from_err c.from_residual-in_err-step.result _ c.from_residual-in_err-step.ensures.0
+pub returns-clause-step : goal.returns-clause-step
+returns-clause-step g c = rw c.in_ok-bodies.ensures at c.try_candidate.ensures.step

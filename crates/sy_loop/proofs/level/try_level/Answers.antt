@@ -1,20 +1,12 @@
 use Rattle.std.proofs.lemmas.Result.{IfOk-from_err}
+use Rattle.sy_loop_candidate.proofs.Going.{goes_on, known_on}
 use Rattle.sy_loop.proofs.level.try_level.Goals as goal
 
 pub returns-in_err-chosen-clause-known : goal.returns-in_err-chosen-clause-known
-returns-in_err-chosen-clause-known g c = IfOk-from_err c.from_residual.result _ c.from_residual.ensures.0
+returns-in_err-chosen-clause-known g c = known_on _ c.from_residual.result _ c.from_residual.ensures.1 tt
 
 pub returns-in_err-chosen-clause-step : goal.returns-in_err-chosen-clause-step
-returns-in_err-chosen-clause-step g c = IfOk-from_err c.from_residual.result _ c.from_residual.ensures.0
+returns-in_err-chosen-clause-step g c = goes_on _ _ _ _ _ _ _ _ _ _ _ _ c.from_residual.result _ c.from_residual.ensures.1 tt
 
 pub returns-in_err-chosen-clause-refuted : goal.returns-in_err-chosen-clause-refuted
 returns-in_err-chosen-clause-refuted g c = IfOk-from_err c.from_residual.result _ c.from_residual.ensures.0
-
-pub returns-in_err-step-clause-known : goal.returns-in_err-step-clause-known
-returns-in_err-step-clause-known g c = IfOk-from_err c.from_residual-in_err-step.result _ c.from_residual-in_err-step.ensures.0
-
-pub returns-in_err-step-clause-step : goal.returns-in_err-step-clause-step
-returns-in_err-step-clause-step g c = IfOk-from_err c.from_residual-in_err-step.result _ c.from_residual-in_err-step.ensures.0
-
-pub returns-in_err-step-clause-refuted : goal.returns-in_err-step-clause-refuted
-returns-in_err-step-clause-refuted g c = IfOk-from_err c.from_residual-in_err-step.result _ c.from_residual-in_err-step.ensures.0

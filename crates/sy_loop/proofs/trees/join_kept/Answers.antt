@@ -1,5 +1,4 @@
 use Rattle.std.proofs.Common.{Some, map, slice_get, ◌≡◌}
-use Rattle.std.proofs.lemmas.Result.{IfOk-from_err}
 use Rattle.sy_terms.specs.Definitions.{scope_of}
 use Rattle.sy_grammar_base.specs.Questions.{question_of}
 use Rattle.sy_bank_level.specs.Bank.{merged_of}
@@ -31,16 +30,4 @@ returns-clause-trees g c =
     let banks = map (merged_of number) c.args.banks.now in
     let bank = merged_of number c.in-Some-get.bank.now in
     let at : slice_get banks 0 ≡ Some bank = bank_at (merged_of number) c.args.banks.now 0 c.in-Some-get.bank.now c.in-Some-get.ensures.lookup.3.0 c.in-Some-get.ensures.lookup.1 in
-    next_weaker (TreesFollowFrom c.args.task.now.reach question history asked c.args.level bank) (TreesFollow c.args.task.now.reach question history asked c.args.level banks) c.in_ok-step.step (first_follow c.args.task.now.reach question history asked c.args.level banks bank at) c.in_ok-step.ensures.trees
-
-pub returns-in_err-step-clause-plan : goal.returns-in_err-step-clause-plan
-returns-in_err-step-clause-plan g c = IfOk-from_err c.from_residual.result _ c.from_residual.ensures.0
-
-pub returns-in_err-step-clause-known : goal.returns-in_err-step-clause-known
-returns-in_err-step-clause-known g c = IfOk-from_err c.from_residual.result _ c.from_residual.ensures.0
-
-pub returns-in_err-step-clause-step : goal.returns-in_err-step-clause-step
-returns-in_err-step-clause-step g c = IfOk-from_err c.from_residual.result _ c.from_residual.ensures.0
-
-pub returns-in_err-step-clause-trees : goal.returns-in_err-step-clause-trees
-returns-in_err-step-clause-trees g c = IfOk-from_err c.from_residual.result _ c.from_residual.ensures.0
+    next_weaker (TreesFollowFrom c.args.task.now.reach question history asked c.args.level bank) (TreesFollow c.args.task.now.reach question history asked c.args.level banks) c.try_trees.result (first_follow c.args.task.now.reach question history asked c.args.level banks bank at) c.try_trees.ensures.trees

@@ -1,13 +1,13 @@
-use Rattle.std.proofs.Common.{map, arith, ap, sym, subst, Err}
+use Rattle.std.proofs.Common.{◌≡◌, map, arith, ap, sym, subst, Err}
 use Rattle.std.proofs.lemmas.List.{length-map}
-use Rattle.std.proofs.lemmas.Result.{IfOk-from_err}
 use Rattle.sy_loop_candidate.proofs.Asking.{grows_not}
 use Rattle.sy_terms.specs.Denoted.{expr_of}
 use Rattle.sy_grammar_base.specs.Questions.{question_of}
 use Rattle.sy_query_base.specs.Asked.{query_of}
 use Rattle.sy_loop_spec.specs.Stored.{counterexample_of, history_of}
-use Rattle.sy_loop_candidate.proofs.Ending.{candidate_members, stored_more, known_more, rounds_more, last_fits, followed, room_in}
+use Rattle.sy_loop_candidate.proofs.Ending.{candidate_members, stored_more, known_more, rounds_more, last_fits, followed, decides_unless, room_in}
 use Rattle.sy_query_base.proofs.Solved.{solved}
+use Rattle.sy_loop_candidate.proofs.Going.{known_on, decides_on}
 use Rattle.sy_loop_candidate.proofs.due.decide_due.Goals as goal
 
 pub returns-in-Never-clause-step : goal.returns-in-Never-clause-step
@@ -41,14 +41,16 @@ returns-then-len-task-clause-step g c =
     c.in-Ok.ensures.query c.in-Ok.ensures.violations (rw c.in-Model.is at c.in_ok-proof.ensures) c.requires.known.honest c.requires.room c.requires.due in
     (rounds_more c.args.task.now.reach (question_of g.T.Theory.denotes c.args.task.now.problem.now) c.args.task.now.limits.now (map (expr_of g.T.Theory.denotes) c.args.bodies) (history_of g.T.Theory.denotes c.args.known.now.stored) (history_of g.T.Theory.denotes c.push.new.self) c.len.result more (omega (arith, c.len.ensures, length-map c.push.new.self.items (counterexample_of g.T.Theory.denotes))) (omega (arith, c.if-len-task.true)), λ traced. tt)
 
-pub returns-in_ok-step-in-Model-clause-step : goal.returns-in_ok-step-in-Model-clause-step
-returns-in_ok-step-in-Model-clause-step g c =
+pub returns-in-Model-clause-step : goal.returns-in-Model-clause-step
+returns-in-Model-clause-step g c =
     let more = stored_more g.T.Theory.denotes c.args.task.now.reach (question_of g.T.Theory.denotes c.args.task.now.problem.now) c.args.task.now.limits.now c.args.known.now.stored c.push.new.self c.in-Model.values c.args.bodies (query_of g.T.Theory.denotes c.in-Ok.query) c.in_ok-push-in-Model.ensures.ok
     c.in-Ok.ensures.query c.in-Ok.ensures.violations (rw c.in-Model.is at c.in_ok-proof.ensures) c.requires.known.honest c.requires.room c.requires.due in
+    decides_unless g.T.Theory.owned g.T.Theory.denotes g.D.Decide.accepted g.D.Decide.budget g.D.Decide.shows c.args.task.now.reach (question_of g.T.Theory.denotes c.args.task.now.problem.now) c.args.task.now.limits.now (map (expr_of g.T.Theory.denotes) c.args.bodies) (history_of g.T.Theory.denotes c.args.known.now.stored) (history_of g.T.Theory.denotes c.follow.new.known.stored)
+    c.args.known.now.points c.follow.new.known.points (c.follow.new.known.stored ≡ c.push.new.self) c.follow.result c.follow.ensures.stored (λ stored.
     followed g.T.Theory.owned g.T.Theory.denotes g.D.Decide.accepted g.D.Decide.budget g.D.Decide.shows c.args.task.now.reach (question_of g.T.Theory.denotes c.args.task.now.problem.now) c.args.task.now.limits.now (map (expr_of g.T.Theory.denotes) c.args.bodies) (history_of g.T.Theory.denotes c.args.known.now.stored) (history_of g.T.Theory.denotes c.follow.new.known.stored)
-    c.args.known.now.points c.follow.new.known.points c.len-place.result c.in_ok-step-in-Model.step (rw (sym c.in_ok-step-in-Model.ensures.stored) at more)
+    c.args.known.now.points c.follow.new.known.points c.len-place.result c.follow.result (rw (sym stored) at more)
     (omega (arith, c.len-place.ensures, length-map c.args.known.now.stored.items (counterexample_of g.T.Theory.denotes)))
-    (rw c.in_ok-step-in-Model.ensures.stored (omega (arith, c.if-len-task.false, c.len.ensures, length-map c.push.new.self.items (counterexample_of g.T.Theory.denotes)))) c.in_ok-step-in-Model.ensures.step
+    (rw stored (omega (arith, c.if-len-task.false, c.len.ensures, length-map c.push.new.self.items (counterexample_of g.T.Theory.denotes)))) c.follow.ensures.step)
 
 pub returns-in-Err-Heavy-clause-step : goal.returns-in-Err-Heavy-clause-step
 returns-in-Err-Heavy-clause-step g c = (
@@ -76,31 +78,22 @@ returns-in-Spent-clause-step g c = (
 )
 
 pub returns-in_err-proof-clause-known : goal.returns-in_err-proof-clause-known
-returns-in_err-proof-clause-known g c = IfOk-from_err c.from_residual.result _ c.from_residual.ensures.0
+returns-in_err-proof-clause-known g c = known_on _ c.from_residual.result _ c.from_residual.ensures.1 tt
 
 pub returns-in_err-proof-clause-grows : goal.returns-in_err-proof-clause-grows
-returns-in_err-proof-clause-grows g c = IfOk-from_err c.from_residual.result _ c.from_residual.ensures.0
+returns-in_err-proof-clause-grows g c = known_on _ c.from_residual.result _ c.from_residual.ensures.1 tt
 
 pub returns-in_err-proof-clause-step : goal.returns-in_err-proof-clause-step
-returns-in_err-proof-clause-step g c = IfOk-from_err c.from_residual.result _ c.from_residual.ensures.0
+returns-in_err-proof-clause-step g c = decides_on _ _ _ _ _ _ _ _ _ _ _ _ _ c.from_residual.result _ c.from_residual.ensures.1 tt
 
 pub returns-in_err-push-in-Model-clause-known : goal.returns-in_err-push-in-Model-clause-known
-returns-in_err-push-in-Model-clause-known g c = IfOk-from_err c.from_residual-in_err-push-in-Model.result _ c.from_residual-in_err-push-in-Model.ensures.0
+returns-in_err-push-in-Model-clause-known g c = known_on _ c.from_residual-in_err-push-in-Model.result _ c.from_residual-in_err-push-in-Model.ensures.1 tt
 
 pub returns-in_err-push-in-Model-clause-grows : goal.returns-in_err-push-in-Model-clause-grows
-returns-in_err-push-in-Model-clause-grows g c = IfOk-from_err c.from_residual-in_err-push-in-Model.result _ c.from_residual-in_err-push-in-Model.ensures.0
+returns-in_err-push-in-Model-clause-grows g c = known_on _ c.from_residual-in_err-push-in-Model.result _ c.from_residual-in_err-push-in-Model.ensures.1 tt
 
 pub returns-in_err-push-in-Model-clause-step : goal.returns-in_err-push-in-Model-clause-step
-returns-in_err-push-in-Model-clause-step g c = IfOk-from_err c.from_residual-in_err-push-in-Model.result _ c.from_residual-in_err-push-in-Model.ensures.0
-
-pub returns-in_err-step-in-Model-clause-known : goal.returns-in_err-step-in-Model-clause-known
-returns-in_err-step-in-Model-clause-known g c = IfOk-from_err c.from_residual-in_err-step-in-Model.result _ c.from_residual-in_err-step-in-Model.ensures.0
-
-pub returns-in_err-step-in-Model-clause-grows : goal.returns-in_err-step-in-Model-clause-grows
-returns-in_err-step-in-Model-clause-grows g c = IfOk-from_err c.from_residual-in_err-step-in-Model.result _ c.from_residual-in_err-step-in-Model.ensures.0
-
-pub returns-in_err-step-in-Model-clause-step : goal.returns-in_err-step-in-Model-clause-step
-returns-in_err-step-in-Model-clause-step g c = IfOk-from_err c.from_residual-in_err-step-in-Model.result _ c.from_residual-in_err-step-in-Model.ensures.0
+returns-in_err-push-in-Model-clause-step g c = decides_on _ _ _ _ _ _ _ _ _ _ _ _ _ c.from_residual-in_err-push-in-Model.result _ c.from_residual-in_err-push-in-Model.ensures.1 tt
 
 pub returns-in-Err-Heavy-clause-known : goal.returns-in-Err-Heavy-clause-known
 returns-in-Err-Heavy-clause-known g c = c.requires.known
@@ -123,8 +116,8 @@ returns-in-Spent-clause-grows g c = grows_not c.args.known.now.points
 pub returns-then-len-task-clause-grows : goal.returns-then-len-task-clause-grows
 returns-then-len-task-clause-grows g c = grows_not c.args.known.now.points
 
-pub returns-in_ok-step-in-Model-clause-known : goal.returns-in_ok-step-in-Model-clause-known
-returns-in_ok-step-in-Model-clause-known g c = c.in_ok-step-in-Model.ensures.known
+pub returns-in-Model-clause-known : goal.returns-in-Model-clause-known
+returns-in-Model-clause-known g c = c.follow.ensures.known
 
-pub returns-in_ok-step-in-Model-clause-grows : goal.returns-in_ok-step-in-Model-clause-grows
-returns-in_ok-step-in-Model-clause-grows g c = c.in_ok-step-in-Model.ensures.grows
+pub returns-in-Model-clause-grows : goal.returns-in-Model-clause-grows
+returns-in-Model-clause-grows g c = c.follow.ensures.grows

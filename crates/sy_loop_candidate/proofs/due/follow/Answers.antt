@@ -1,5 +1,4 @@
 use Rattle.std.proofs.Common.{arith, List, map}
-use Rattle.std.proofs.lemmas.Result.{IfOk-from_err}
 use Rattle.sy_terms.specs.Denoted.{expr_of, vals_of}
 use Rattle.sy_terms.specs.declared.sort.Value.{Value}
 use Rattle.sy_terms.specs.declared.term.Term.{Term}
@@ -8,6 +7,7 @@ use Rattle.sy_loop_spec.specs.Stored.{counterexample_of, history_of}
 use Rattle.sy_loop_candidate.proofs.Asking.{grows_by, known_wider}
 use Rattle.sy_loop_truth.proofs.Places.{place_of}
 use Rattle.sy_loop_candidate.proofs.Ending.{points_met, followed_at, followed_leaves, stored_candidate, room_in}
+use Rattle.sy_loop_candidate.proofs.Going.{known_on, follows_on}
 use Rattle.sy_loop_candidate.proofs.due.follow.Goals as goal
 
 pub ask_at-requires-clause-bodies : goal.ask_at-requires-clause-bodies
@@ -104,37 +104,37 @@ pub unreachable-requires : goal.unreachable-requires
 unreachable-requires g c = omega (arith, c.requires.place, c.in_default.ensures)
 
 pub returns-in_err-asked-clause-stored : goal.returns-in_err-asked-clause-stored
-returns-in_err-asked-clause-stored g c = IfOk-from_err c.from_residual.result _ c.from_residual.ensures.0
+returns-in_err-asked-clause-stored g c = known_on _ c.from_residual.result _ c.from_residual.ensures.1 tt
 
 pub returns-in_err-asked-clause-known : goal.returns-in_err-asked-clause-known
-returns-in_err-asked-clause-known g c = IfOk-from_err c.from_residual.result _ c.from_residual.ensures.0
+returns-in_err-asked-clause-known g c = known_on _ c.from_residual.result _ c.from_residual.ensures.1 tt
 
 pub returns-in_err-asked-clause-grows : goal.returns-in_err-asked-clause-grows
-returns-in_err-asked-clause-grows g c = IfOk-from_err c.from_residual.result _ c.from_residual.ensures.0
+returns-in_err-asked-clause-grows g c = known_on _ c.from_residual.result _ c.from_residual.ensures.1 tt
 
 pub returns-in_err-asked-clause-step : goal.returns-in_err-asked-clause-step
-returns-in_err-asked-clause-step g c = IfOk-from_err c.from_residual.result _ c.from_residual.ensures.0
+returns-in_err-asked-clause-step g c = follows_on _ _ _ _ _ _ _ _ _ _ _ _ c.from_residual.result _ c.from_residual.ensures.1 tt
 
 pub returns-in_err-copy-in-Full-clause-stored : goal.returns-in_err-copy-in-Full-clause-stored
-returns-in_err-copy-in-Full-clause-stored g c = IfOk-from_err c.from_residual-in_err-copy-in-Full.result _ c.from_residual-in_err-copy-in-Full.ensures.0
+returns-in_err-copy-in-Full-clause-stored g c = known_on _ c.from_residual-in_err-copy-in-Full.result _ c.from_residual-in_err-copy-in-Full.ensures.1 tt
 
 pub returns-in_err-copy-in-Full-clause-known : goal.returns-in_err-copy-in-Full-clause-known
-returns-in_err-copy-in-Full-clause-known g c = IfOk-from_err c.from_residual-in_err-copy-in-Full.result _ c.from_residual-in_err-copy-in-Full.ensures.0
+returns-in_err-copy-in-Full-clause-known g c = known_on _ c.from_residual-in_err-copy-in-Full.result _ c.from_residual-in_err-copy-in-Full.ensures.1 tt
 
 pub returns-in_err-copy-in-Full-clause-grows : goal.returns-in_err-copy-in-Full-clause-grows
-returns-in_err-copy-in-Full-clause-grows g c = IfOk-from_err c.from_residual-in_err-copy-in-Full.result _ c.from_residual-in_err-copy-in-Full.ensures.0
+returns-in_err-copy-in-Full-clause-grows g c = known_on _ c.from_residual-in_err-copy-in-Full.result _ c.from_residual-in_err-copy-in-Full.ensures.1 tt
 
 pub returns-in_err-copy-in-Full-clause-step : goal.returns-in_err-copy-in-Full-clause-step
-returns-in_err-copy-in-Full-clause-step g c = IfOk-from_err c.from_residual-in_err-copy-in-Full.result _ c.from_residual-in_err-copy-in-Full.ensures.0
+returns-in_err-copy-in-Full-clause-step g c = follows_on _ _ _ _ _ _ _ _ _ _ _ _ c.from_residual-in_err-copy-in-Full.result _ c.from_residual-in_err-copy-in-Full.ensures.1 tt
 
 pub returns-in_err-assignment-in-Full-clause-stored : goal.returns-in_err-assignment-in-Full-clause-stored
-returns-in_err-assignment-in-Full-clause-stored g c = IfOk-from_err c.from_residual-in_err-assignment-in-Full.result _ c.from_residual-in_err-assignment-in-Full.ensures.0
+returns-in_err-assignment-in-Full-clause-stored g c = known_on _ c.from_residual-in_err-assignment-in-Full.result _ c.from_residual-in_err-assignment-in-Full.ensures.1 tt
 
 pub returns-in_err-assignment-in-Full-clause-known : goal.returns-in_err-assignment-in-Full-clause-known
-returns-in_err-assignment-in-Full-clause-known g c = IfOk-from_err c.from_residual-in_err-assignment-in-Full.result _ c.from_residual-in_err-assignment-in-Full.ensures.0
+returns-in_err-assignment-in-Full-clause-known g c = known_on _ c.from_residual-in_err-assignment-in-Full.result _ c.from_residual-in_err-assignment-in-Full.ensures.1 tt
 
 pub returns-in_err-assignment-in-Full-clause-grows : goal.returns-in_err-assignment-in-Full-clause-grows
-returns-in_err-assignment-in-Full-clause-grows g c = IfOk-from_err c.from_residual-in_err-assignment-in-Full.result _ c.from_residual-in_err-assignment-in-Full.ensures.0
+returns-in_err-assignment-in-Full-clause-grows g c = known_on _ c.from_residual-in_err-assignment-in-Full.result _ c.from_residual-in_err-assignment-in-Full.ensures.1 tt
 
 pub returns-in_err-assignment-in-Full-clause-step : goal.returns-in_err-assignment-in-Full-clause-step
-returns-in_err-assignment-in-Full-clause-step g c = IfOk-from_err c.from_residual-in_err-assignment-in-Full.result _ c.from_residual-in_err-assignment-in-Full.ensures.0
+returns-in_err-assignment-in-Full-clause-step g c = follows_on _ _ _ _ _ _ _ _ _ _ _ _ c.from_residual-in_err-assignment-in-Full.result _ c.from_residual-in_err-assignment-in-Full.ensures.1 tt

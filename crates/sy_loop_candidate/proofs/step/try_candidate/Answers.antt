@@ -1,14 +1,14 @@
 use Rattle.std.proofs.Common.{map, subst, arith}
 use Rattle.std.proofs.lemmas.List.{length-map}
 use Rattle.std.proofs.lemmas.Option.{slice_get_within}
-use Rattle.std.proofs.lemmas.Result.{IfOk-from_err}
 use Rattle.sy_terms.specs.Denoted.{expr_of, vals_of}
 use Rattle.sy_grammar_base.specs.Questions.{question_of}
 use Rattle.sy_loop_spec.specs.Stored.{counterexample_of, history_of}
-use Rattle.sy_loop_truth.specs.Traces.{AsksMore, LeavesRangeAt}
+use Rattle.sy_loop_truth.specs.Traces.{AsksMore, LeavesRangeAt, TuplesGrow}
 use Rattle.sy_loop_candidate.proofs.Asking.{grows_by, grows_then, known_wider}
 use Rattle.sy_loop_candidate.specs.Steps.{Steps}
 use Rattle.sy_loop_candidate.proofs.Ending.{points_met, checked_leaves, room_in, traced_step}
+use Rattle.sy_loop_candidate.proofs.Going.{known_on, known_weaker, steps_on}
 use Rattle.sy_loop_candidate.proofs.step.try_candidate.Goals as goal
 
 pub try_bodies-requires-clause-held : goal.try_bodies-requires-clause-held
@@ -23,16 +23,16 @@ decide_due-requires-clause-due g c =
     let answer = rw c.in-Due.is at c.in_ok-try_bodies.ensures.answer in
     record { candidate = c.requires.candidate; meets = answer.0 }
 
-pub returns-in_ok-step-in-Due-clause-step : goal.returns-in_ok-step-in-Due-clause-step
-returns-in_ok-step-in-Due-clause-step g c =
+pub returns-in-Due-clause-step : goal.returns-in-Due-clause-step
+returns-in-Due-clause-step g c =
     let answer = rw c.in-Due.is at c.in_ok-try_bodies.ensures.answer in
     let number = g.T.Theory.denotes in
     let question = question_of number c.args.task.now.problem.now in
     let bodies = map (expr_of number) c.args.bodies in
     let before = history_of number c.args.known.now.stored in
     let after = history_of number c.decide_due.new.known.stored in
-    subst (λ asked. Steps g.T.Theory.owned number g.D.Decide.accepted g.D.Decide.budget g.D.Decide.shows c.args.task.now.reach question c.args.task.now.limits.now bodies before asked after c.decide_due.new.known.points c.in_ok-step-in-Due.step) answer.2
-    (traced_step g.T.Theory.owned number g.D.Decide.accepted g.D.Decide.budget g.D.Decide.shows c.args.task.now.reach question c.args.task.now.limits.now bodies before after c.try_bodies.new.points c.decide_due.new.known.points c.in_ok-step-in-Due.step c.in_ok-step-in-Due.ensures.step answer.1)
+    subst (λ asked. Steps g.T.Theory.owned number g.D.Decide.accepted g.D.Decide.budget g.D.Decide.shows c.args.task.now.reach question c.args.task.now.limits.now bodies before asked after c.decide_due.new.known.points c.decide_due.result) answer.2
+    (traced_step g.T.Theory.owned number g.D.Decide.accepted g.D.Decide.budget g.D.Decide.shows c.args.task.now.reach question c.args.task.now.limits.now bodies before after c.try_bodies.new.points c.decide_due.new.known.points c.decide_due.result c.decide_due.ensures.step answer.1)
 
 pub returns-in_ok-assignment-in-Full-clause-step : goal.returns-in_ok-assignment-in-Full-clause-step
 returns-in_ok-assignment-in-Full-clause-step g c =
@@ -47,9 +47,11 @@ returns-in_ok-assignment-in-Leaves-clause-step g c =
     c.requires.known.honest (room_in g.T.Theory.denotes c.args.known.now.stored c.args.task.now.limits.now.rounds c.requires.room) c.requires.candidate (rw c.in-Leaves.is at c.in_ok-try_bodies.ensures.answer) c.in_ok-assignment-in-Leaves.ensures in
     (leaves, tt)
 
-pub returns-in_ok-step-in-Due-clause-grows : goal.returns-in_ok-step-in-Due-clause-grows
-returns-in_ok-step-in-Due-clause-grows g c =
-    grows_then c.args.known.now.points c.try_bodies.new.points c.decide_due.new.known.points (grows_by (question_of g.T.Theory.denotes c.args.task.now.problem.now) (history_of g.T.Theory.denotes c.args.known.now.stored) (map (expr_of g.T.Theory.denotes) c.args.bodies) c.args.known.now.points c.try_bodies.new.points c.in_ok-try_bodies.ensures.widens) c.in_ok-step-in-Due.ensures.grows
+pub returns-in-Due-clause-grows : goal.returns-in-Due-clause-grows
+returns-in-Due-clause-grows g c =
+    known_weaker (TuplesGrow c.try_bodies.new.points c.decide_due.new.known.points) (TuplesGrow c.args.known.now.points c.decide_due.new.known.points) c.decide_due.result
+    (grows_then c.args.known.now.points c.try_bodies.new.points c.decide_due.new.known.points (grows_by (question_of g.T.Theory.denotes c.args.task.now.problem.now) (history_of g.T.Theory.denotes c.args.known.now.stored) (map (expr_of g.T.Theory.denotes) c.args.bodies) c.args.known.now.points c.try_bodies.new.points c.in_ok-try_bodies.ensures.widens))
+    c.decide_due.ensures.grows
 
 pub returns-in-Refuted-clause-known : goal.returns-in-Refuted-clause-known
 returns-in-Refuted-clause-known g c =
@@ -100,40 +102,31 @@ assignment_at-requires-in-Leaves g c =
     omega (arith, within, length-map c.args.known.now.stored.items (counterexample_of number))
 
 pub returns-in_err-try_bodies-clause-known : goal.returns-in_err-try_bodies-clause-known
-returns-in_err-try_bodies-clause-known g c = IfOk-from_err c.from_residual.result _ c.from_residual.ensures.0
+returns-in_err-try_bodies-clause-known g c = known_on _ c.from_residual.result _ c.from_residual.ensures.1 tt
 
 pub returns-in_err-try_bodies-clause-grows : goal.returns-in_err-try_bodies-clause-grows
-returns-in_err-try_bodies-clause-grows g c = IfOk-from_err c.from_residual.result _ c.from_residual.ensures.0
+returns-in_err-try_bodies-clause-grows g c = known_on _ c.from_residual.result _ c.from_residual.ensures.1 tt
 
 pub returns-in_err-try_bodies-clause-step : goal.returns-in_err-try_bodies-clause-step
-returns-in_err-try_bodies-clause-step g c = IfOk-from_err c.from_residual.result _ c.from_residual.ensures.0
-
-pub returns-in_err-step-in-Due-clause-known : goal.returns-in_err-step-in-Due-clause-known
-returns-in_err-step-in-Due-clause-known g c = IfOk-from_err c.from_residual-in_err-step-in-Due.result _ c.from_residual-in_err-step-in-Due.ensures.0
-
-pub returns-in_err-step-in-Due-clause-grows : goal.returns-in_err-step-in-Due-clause-grows
-returns-in_err-step-in-Due-clause-grows g c = IfOk-from_err c.from_residual-in_err-step-in-Due.result _ c.from_residual-in_err-step-in-Due.ensures.0
-
-pub returns-in_err-step-in-Due-clause-step : goal.returns-in_err-step-in-Due-clause-step
-returns-in_err-step-in-Due-clause-step g c = IfOk-from_err c.from_residual-in_err-step-in-Due.result _ c.from_residual-in_err-step-in-Due.ensures.0
+returns-in_err-try_bodies-clause-step g c = steps_on _ _ _ _ _ _ _ _ _ _ _ _ _ c.from_residual.result _ c.from_residual.ensures.1 tt
 
 pub returns-in_err-assignment-in-Full-clause-known : goal.returns-in_err-assignment-in-Full-clause-known
-returns-in_err-assignment-in-Full-clause-known g c = IfOk-from_err c.from_residual-in_err-assignment-in-Full.result _ c.from_residual-in_err-assignment-in-Full.ensures.0
+returns-in_err-assignment-in-Full-clause-known g c = known_on _ c.from_residual-in_err-assignment-in-Full.result _ c.from_residual-in_err-assignment-in-Full.ensures.1 tt
 
 pub returns-in_err-assignment-in-Full-clause-grows : goal.returns-in_err-assignment-in-Full-clause-grows
-returns-in_err-assignment-in-Full-clause-grows g c = IfOk-from_err c.from_residual-in_err-assignment-in-Full.result _ c.from_residual-in_err-assignment-in-Full.ensures.0
+returns-in_err-assignment-in-Full-clause-grows g c = known_on _ c.from_residual-in_err-assignment-in-Full.result _ c.from_residual-in_err-assignment-in-Full.ensures.1 tt
 
 pub returns-in_err-assignment-in-Full-clause-step : goal.returns-in_err-assignment-in-Full-clause-step
-returns-in_err-assignment-in-Full-clause-step g c = IfOk-from_err c.from_residual-in_err-assignment-in-Full.result _ c.from_residual-in_err-assignment-in-Full.ensures.0
+returns-in_err-assignment-in-Full-clause-step g c = steps_on _ _ _ _ _ _ _ _ _ _ _ _ _ c.from_residual-in_err-assignment-in-Full.result _ c.from_residual-in_err-assignment-in-Full.ensures.1 tt
 
 pub returns-in_err-assignment-in-Leaves-clause-known : goal.returns-in_err-assignment-in-Leaves-clause-known
-returns-in_err-assignment-in-Leaves-clause-known g c = IfOk-from_err c.from_residual-in_err-assignment-in-Leaves.result _ c.from_residual-in_err-assignment-in-Leaves.ensures.0
+returns-in_err-assignment-in-Leaves-clause-known g c = known_on _ c.from_residual-in_err-assignment-in-Leaves.result _ c.from_residual-in_err-assignment-in-Leaves.ensures.1 tt
 
 pub returns-in_err-assignment-in-Leaves-clause-grows : goal.returns-in_err-assignment-in-Leaves-clause-grows
-returns-in_err-assignment-in-Leaves-clause-grows g c = IfOk-from_err c.from_residual-in_err-assignment-in-Leaves.result _ c.from_residual-in_err-assignment-in-Leaves.ensures.0
+returns-in_err-assignment-in-Leaves-clause-grows g c = known_on _ c.from_residual-in_err-assignment-in-Leaves.result _ c.from_residual-in_err-assignment-in-Leaves.ensures.1 tt
 
 pub returns-in_err-assignment-in-Leaves-clause-step : goal.returns-in_err-assignment-in-Leaves-clause-step
-returns-in_err-assignment-in-Leaves-clause-step g c = IfOk-from_err c.from_residual-in_err-assignment-in-Leaves.result _ c.from_residual-in_err-assignment-in-Leaves.ensures.0
+returns-in_err-assignment-in-Leaves-clause-step g c = steps_on _ _ _ _ _ _ _ _ _ _ _ _ _ c.from_residual-in_err-assignment-in-Leaves.result _ c.from_residual-in_err-assignment-in-Leaves.ensures.1 tt
 
-pub returns-in_ok-step-in-Due-clause-known : goal.returns-in_ok-step-in-Due-clause-known
-returns-in_ok-step-in-Due-clause-known g c = c.in_ok-step-in-Due.ensures.known
+pub returns-in-Due-clause-known : goal.returns-in-Due-clause-known
+returns-in-Due-clause-known g c = c.decide_due.ensures.known
