@@ -1,5 +1,5 @@
 // The checker of refutation trees.
-ghost use Rattle.std.specs.Prelude.{◌≡◌, ◌+◌, ◌<◌, ◌^◌, [], Ok, true, false, length, take, IfOk, OnOk};
+ghost use Rattle.std.specs.Prelude.{◌≡◌, ◌+◌, ◌<◌, ◌≤◌, ◌^◌, [], Ok, true, false, length, take, IfOk, OnOk};
 ghost use Rattle.sy_terms.specs.Expr.{nodes};
 ghost use Rattle.sy_linear_known.specs.Stored.{linear_query_of, tree_shape_of};
 ghost use Rattle.sy_linear_known.specs.Trees.{TreeRefutes};
