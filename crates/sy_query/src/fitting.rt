@@ -6,7 +6,7 @@ ghost use Rattle.sy_query_base.specs.Asked.{query_of, QueryFits};
 use std::alloc::Global;
 use sy_meaning::term_sort;
 use sy_query_base::Query;
-use sy_terms::{Sort, Theory, Want};
+use sy_terms::{Defs, Seq, Sort, Theory, Want};
 
 /// Whether variables may have the sort: truth values, and numbers of the theory; a vector has 1 to 64 bits.
 fn is_sort<T: Theory>(sort: Sort) -> bool
@@ -27,7 +27,8 @@ pub fn fits<T: Theory>(alloc: Global, query: &Query<T>) -> Result<bool, Want>
     if !vars.iter().all(|&sort| is_sort::<T>(sort)) {
         return Ok(false);
     }
-    match term_sort(alloc, &[], &[], vars, &query.body)? {
+    let defs: Defs<T> = Seq::new(alloc);
+    match term_sort(alloc, defs.as_slice(), &[], vars, &query.body)? {
         Some(Sort::Bool) => Ok(true),
         _ => Ok(false),
     }

@@ -93,13 +93,15 @@ returns-in_err-keep-clause-lines c = IfOk-from_err c.from_residual-in_err-keep.r
 pub returns-in_err-keep-clause-ends : goal.returns-in_err-keep-clause-ends
 returns-in_err-keep-clause-ends c = IfOk-from_err c.from_residual-in_err-keep.result _ c.from_residual-in_err-keep.ensures.0
 
-pub conclude-requires-clause-conflict : goal.conclude-requires-clause-conflict
-conclude-requires-clause-conflict c =
+pub conclude-requires : goal.conclude-requires
+conclude-requires c =
     let i = c.requires.sound in
-    rw c.deref.ensures.value (record {
-      ready = i.ready;
-      levels = i.levels;
-      false = c.requires.conflict;
-      empty = i.empty;
-      listed = i.listed;
-    })
+    record {
+      conflict = rw c.deref.ensures.value (record {
+        ready = i.ready;
+        levels = i.levels;
+        false = c.requires.conflict;
+        empty = i.empty;
+        listed = i.listed;
+      });
+    }

@@ -33,13 +33,15 @@ returns-in_err-push-clause-refutes c = IfOk-from_err c.from_residual-in_err-push
 pub returns-in_err-push-clause-one : goal.returns-in_err-push-clause-one
 returns-in_err-push-clause-one c = IfOk-from_err c.from_residual-in_err-push.result _ c.from_residual-in_err-push.ensures.0
 
-pub analyze-requires-clause-conflict : goal.analyze-requires-clause-conflict
-analyze-requires-clause-conflict c =
+pub analyze-requires : goal.analyze-requires
+analyze-requires c =
     let i = c.requires.stuck in
-    rw c.deref.ensures.value (record {
-      ready = i.ready;
-      levels = λ k n is. (let none = rw i.lowest at is in absurd (cc));
-      false = i.conflict;
-      empty = i.empty;
-      listed = i.listed;
-    })
+    record {
+      conflict = rw c.deref.ensures.value (record {
+        ready = i.ready;
+        levels = λ k n is. (let none = rw i.lowest at is in absurd (cc));
+        false = i.conflict;
+        empty = i.empty;
+        listed = i.listed;
+      });
+    }
