@@ -9,7 +9,7 @@ mod facts;
 mod names;
 mod operators;
 mod query;
-mod rewrite;
+mod rules;
 mod settled;
 mod sums;
 mod sums_query;
@@ -18,5 +18,5 @@ mod triples;
 mod written;
 
 pub use query::ordered;
-pub use rewrite::{Rule, rewrite};
+pub use rules::{Rule, rewrite};
 pub use sums_query::settled_query;

@@ -8,7 +8,7 @@ ghost use Rattle.sy_meaning_words.specs.Vectors.{vector};
 ghost use Rattle.sy_rewrite_orders.specs.Sums.{BeginWithSorts};
 
 use crate::comparisons::truth_at;
-use crate::rewrite::Rule;
+use crate::rules::Rule;
 use std::alloc::Global;
 use sy_meaning_words::BvTheory;
 use sy_terms::{Op, Sort, Term, Terms, Value, Want};

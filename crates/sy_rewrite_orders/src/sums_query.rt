@@ -4,7 +4,7 @@ ghost use Rattle.sy_terms.specs.Values.{Val};
 ghost use Rattle.sy_query_base.specs.Asked.{query_of, Satisfies};
 ghost use Rattle.sy_meaning_words.specs.Vectors.{vector};
 
-use crate::rewrite::rewrite;
+use crate::rules::rewrite;
 use crate::settled::Settled;
 use std::alloc::Global;
 use sy_meaning_words::BvTheory;

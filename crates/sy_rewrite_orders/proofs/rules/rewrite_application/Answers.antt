@@ -1,6 +1,6 @@
 use Rattle.std.proofs.Common.{refl}
 use Rattle.sy_terms.specs.Denoted.{expr_of-App}
-use Rattle.sy_rewrite_orders.proofs.rewrite.rewrite_application.Goals as goal
+use Rattle.sy_rewrite_orders.proofs.rules.rewrite_application.Goals as goal
 
 pub returns-in-Some : goal.returns-in-Some
 returns-in-Some g c = rw c.in-Some.is at c.in_ok-rewritten.ensures

@@ -3,7 +3,7 @@ use Rattle.std.proofs.lemmas.List.{take_more}
 use Rattle.sy_terms.specs.Denoted.{expr_of-App, expr_of-Let}
 use Rattle.sy_meaning_words.specs.Vectors.{vector}
 use Rattle.sy_rewrite_orders.proofs.TermsLaws.{applied-same, bound-same, next-same}
-use Rattle.sy_rewrite_orders.proofs.rewrite.+rewrite.Goals as goal
+use Rattle.sy_rewrite_orders.proofs.rules.+rewrite.Goals as goal
 
 pub rewrite-returns-in_ok-found-in-App : goal.rewrite-returns-in_ok-found-in-App
 rewrite-returns-in_ok-found-in-App g t c =
