@@ -1,39 +1,30 @@
 -- Chains of terms, two at a time from the left.
-use Rattle.std.proofs.Common.{◌≡◌, ◌≤◌, ◌-◌, true, List, [], ◌∷◌, ◌++◌, length, get_or, take, drop, arith, refl, ap, sym, ◌∙◌}
+use Rattle.std.proofs.Common.{◌≡◌, ◌≤◌, ◌-◌, true, List, [], ◌∷◌, ◌++◌, Option, Some, None, length, get_or, take, drop, arith, refl, ap, sym, ◌∙◌}
+use Rattle.std.specs.Prelude.{IfSome}
 use Rattle.std.proofs.lemmas.List.{take_all}
 use Rattle.sy_terms.specs.Values.{Val}
 use Rattle.sy_terms.specs.Operators.{op_value}
-use Rattle.sy_terms.specs.Expr.{Expr, Exprs, Apply, Bind, more, none}
+use Rattle.sy_terms.specs.Expr.{Expr, Exprs, Apply, more, none}
 use Rattle.sy_terms.specs.Denoted.{expr_of, exprs_of}
 use Rattle.sy_terms.specs.Meaning.{meaning, meanings}
 use Rattle.sy_terms.specs.declared.op.Op.{Op}
+use Rattle.sy_terms.specs.declared.sort.Sort.{Sort}
 use Rattle.sy_terms.specs.declared.term.Term.{Term}
 use Rattle.sy_meaning_words.specs.Vectors.{is_folded}
+use Rattle.sy_rewrite_orders.specs.Sums.{IsSameOver}
 use Rattle.sy_rewrite_orders.proofs.TermsLaws.{last-folded}
 use Rattle.sy_query_normal.proofs.Terms.{last_one}
 
--- what the operator gives at arguments that mean the same
-pub applied_paired : (operator : Op) (found : Expr) (arguments others : Exprs) → ((values : List Val) → meaning [] [] values found ≡ op_value operator (meanings [] [] values arguments)) →
-    ((values : List Val) → meanings [] [] values arguments ≡ meanings [] [] values others) → (values : List Val) → meaning [] [] values found ≡ meaning [] [] values (Apply operator others)
+-- what means the same at all values does so over variables of any sorts
+application_paired : (sorts : List Sort) (operator : Op) (found : Expr) (arguments : Exprs) → ((values : List Val) → meaning [] [] values found ≡ op_value operator (meanings [] [] values arguments)) → IsSameOver sorts found (Apply operator arguments)
 unfolding meaning
-applied_paired operator found arguments others is are values = is values ∙ ap (op_value operator) (are values)
+application_paired sorts operator found arguments is values begin = is values
 
-pub application_is : (operator : Op) (found : Expr) (arguments : Exprs) → found ≡ Apply operator arguments → (values : List Val) → meaning [] [] values found ≡ op_value operator (meanings [] [] values arguments)
-unfolding meaning
-application_is operator found arguments is values = ap (meaning [] [] values) is
-
--- a let of terms that mean the same
-pub bound_paired : (bound others : Exprs) (inner other : Expr) → ((values : List Val) → meanings [] [] values bound ≡ meanings [] [] values others) →
-    ((values : List Val) → meaning [] [] values inner ≡ meaning [] [] values other) → (values : List Val) → meaning [] [] values (Bind bound inner) ≡ meaning [] [] values (Bind others other)
-unfolding meaning
-bound_paired bound others inner other are is values =
-    is (values ++ meanings [] [] values bound) ∙ ap (λ (found : List Val). meaning [] [] (values ++ found) other) (are values)
-
--- lists with one term more
-pub next_paired : {T N : Type 0} (number : N → Val) (found others : List (Term T N)) (term other : Term T N) → ((values : List Val) → meanings [] [] values (exprs_of number found) ≡ meanings [] [] values (exprs_of number others)) →
-    ((values : List Val) → meaning [] [] values (expr_of number term) ≡ meaning [] [] values (expr_of number other)) → (values : List Val) → meanings [] [] values (exprs_of number (found ++ term ∷ [])) ≡ meanings [] [] values (exprs_of number (others ++ other ∷ []))
-next_paired number found others term other are is values =
-    rw (last_one number values found term, last_one number values others other, are values, is values) refl
+pub paired_over : {T N : Type 0} (number : N → Val) (sorts : List Sort) (operator : Op) (arguments : Exprs) (found : Option (Term T N)) →
+    IfSome found (λ term. (values : List Val) → meaning [] [] values (expr_of number term) ≡ op_value operator (meanings [] [] values arguments)) →
+    IfSome found (λ term. IsSameOver sorts (expr_of number term) (Apply operator arguments))
+paired_over number sorts operator arguments (Some term) is = application_paired sorts operator (expr_of number term) arguments is
+paired_over number sorts operator arguments None is = tt
 
 -- a chain of two terms
 pub first_folded : (operator : Op) (first second found : Expr) → found ≡ Apply operator (more first (more second none)) → (values : List Val) → meaning [] [] values found ≡ op_value operator (meaning [] [] values first ∷ meaning [] [] values second ∷ [])

@@ -11,62 +11,25 @@ ghost use Rattle.sy_meaning_words.specs.Vectors.{vector};
 use crate::sides::at_two;
 use std::alloc::Global;
 use sy_meaning_words::BvTheory;
-use sy_terms::{Op, Term, Terms, Want};
+use sy_rewrite_orders::Rule;
+use sy_terms::{Op, Sort, Term, Terms, Want};
 
 /// The most arguments that are written two at a time: each makes the term one deeper.
 const MOST_ARGUMENTS: usize = 64;
 
-/// A term that means the same, in which sums, products and chains of `bvand`, `bvor` and `bvxor` have two arguments
-/// each, so that what the first ones of a chain give is a word.
-#[cycle(chains)]
-pub(crate) fn paired(alloc: Global, term: &Term<BvTheory>) -> Result<Term<BvTheory>, Want>
-    ensures { IfOk result (λ found. (values : List Val) →
-        meaning [] [] values (expr_of vector found) ≡ meaning [] [] values (expr_of vector term.now)) }
-{
-    match term {
-        Term::App(operator, arguments) => {
-            let arguments = all_paired(alloc, arguments.as_slice())?;
-            let found = paired_application(alloc, *operator, arguments)?;
-            Ok(found)
-        }
-        Term::Let(bound, inner) => {
-            let bound = all_paired(alloc, bound.as_slice())?;
-            let inner = paired(alloc, inner)?;
-            Ok(Term::Let(bound, Box::new(alloc, inner)?))
-        }
-        _ => {
-            let found = term.copy(alloc)?;
-            Ok(found)
-        }
-    }
-}
+/// Sums, products and chains of `bvand`, `bvor` and `bvxor` have two arguments each, so that what the first ones of a
+/// chain give is a word.
+pub struct Paired;
 
-/// The same of each of the terms.
-#[cycle(chains)]
-fn all_paired(alloc: Global, terms: &[Term<BvTheory>]) -> Result<Terms<BvTheory>, Want>
-    ensures { IfOk result (λ found. (values : List Val) →
-        meanings [] [] values (exprs_of vector found.items.items) ≡ meanings [] [] values (exprs_of vector terms.now)) }
-{
-    let mut all = Terms::with_capacity(alloc, terms.len())?;
-    for term in terms {
-        let found = paired(alloc, term)?;
-        all.push(found)?;
-    }
-    Ok(all)
-}
-
-/// The operator at the terms, two at a time where it takes more of them from the left.
-fn paired_application(
-    alloc: Global,
-    operator: Op,
-    arguments: Terms<BvTheory>,
-) -> Result<Term<BvTheory>, Want>
-    ensures { IfOk result (λ found. (values : List Val) → meaning [] [] values (expr_of vector found) ≡
-        op_value operator (meanings [] [] values (exprs_of vector arguments.items.items))) }
-{
-    match in_pairs(alloc, operator, arguments.as_slice())? {
-        Some(found) => Ok(found),
-        None => Ok(Term::App(operator, arguments)),
+impl Rule for Paired {
+    fn rewritten(
+        alloc: Global,
+        _sorts: &[Sort],
+        operator: Op,
+        arguments: &Terms<BvTheory>,
+    ) -> Result<Option<Term<BvTheory>>, Want> {
+        let found = in_pairs(alloc, operator, arguments.as_slice())?;
+        Ok(found)
     }
 }
 

@@ -4,11 +4,12 @@ ghost use Rattle.sy_terms.specs.Values.{Val};
 ghost use Rattle.sy_query_base.specs.Asked.{query_of, Satisfies};
 ghost use Rattle.sy_meaning_words.specs.Vectors.{vector};
 
-use crate::chains::paired;
-use crate::normal::normal;
+use crate::chains::Paired;
+use crate::normal::Normal;
 use std::alloc::Global;
 use sy_meaning_words::BvTheory;
 use sy_query_base::Query;
+use sy_rewrite_orders::rewrite;
 use sy_terms::{Want, copied_sorts};
 
 /// A query that the same values satisfy, written so that equal terms are more often one term: arguments of `and`, `or`,
@@ -25,7 +26,7 @@ pub fn normal_query(alloc: Global, query: &Query<BvTheory>) -> Result<Query<BvTh
         Satisfies (query_of vector found) values ↔ Satisfies (query_of vector query.now) values) }
 {
     let vars = copied_sorts(alloc, query.vars.as_slice())?;
-    let written = normal(alloc, query.vars.as_slice(), &query.body)?;
-    let body = paired(alloc, &written)?;
+    let written = rewrite::<Normal>(alloc, query.vars.as_slice(), &query.body)?;
+    let body = rewrite::<Paired>(alloc, query.vars.as_slice(), &written)?;
     Ok(Query { vars, body })
 }

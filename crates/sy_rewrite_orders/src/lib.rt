@@ -1,5 +1,5 @@
 // Queries that are satisfied by the same values as others and are easier to search: comparisons pushed into `ite`, and
-// comparisons of polynomials decided.
+// comparisons of polynomials decided. Rewriting by a rule.
 #![tactic(auto)]
 
 mod apart;
@@ -9,6 +9,7 @@ mod facts;
 mod names;
 mod operators;
 mod query;
+mod rules;
 mod settled;
 mod sums;
 mod sums_query;
@@ -17,4 +18,5 @@ mod triples;
 mod written;
 
 pub use query::ordered;
+pub use rules::{Rule, rewrite};
 pub use sums_query::settled_query;

@@ -4,7 +4,8 @@ ghost use Rattle.sy_terms.specs.Values.{Val};
 ghost use Rattle.sy_query_base.specs.Asked.{query_of, Satisfies};
 ghost use Rattle.sy_meaning_words.specs.Vectors.{vector};
 
-use crate::settled::settled;
+use crate::rules::rewrite;
+use crate::settled::Settled;
 use std::alloc::Global;
 use sy_meaning_words::BvTheory;
 use sy_query_base::Query;
@@ -18,6 +19,6 @@ pub fn settled_query(alloc: Global, query: &Query<BvTheory>) -> Result<Query<BvT
         Satisfies (query_of vector found) values ↔ Satisfies (query_of vector query.now) values) }
 {
     let vars = copied_sorts(alloc, query.vars.as_slice())?;
-    let body = settled(alloc, query.vars.as_slice(), &query.body)?;
+    let body = rewrite::<Settled>(alloc, query.vars.as_slice(), &query.body)?;
     Ok(Query { vars, body })
 }

@@ -11,8 +11,9 @@ pub returns-clause-same : goal.returns-clause-same
 returns-clause-same c =
     let same = c.in_ok-vars.ensures ∙ c.as_slice.ensures in
     let is = subst (λ sorts. IsSameOver sorts (expr_of vector c.in_ok-written.written) (expr_of vector c.args.query.now.body)) c.as_slice-2.ensures c.in_ok-written.ensures in
+    let pairs = subst (λ sorts. IsSameOver sorts (expr_of vector c.in_ok-body.body) (expr_of vector c.in_ok-written.written)) c.as_slice-3.ensures c.in_ok-body.ensures in
     satisfied-same (query_of vector c.args.query.now) (query_of vector (record { vars = c.in_ok-vars.vars; body = c.in_ok-body.body })) same
-    (λ values begin. c.in_ok-body.ensures values ∙ is values begin)
+    (λ values begin. pairs values begin ∙ is values begin)
 
 pub returns-in_err-vars-clause-variables : goal.returns-in_err-vars-clause-variables
 returns-in_err-vars-clause-variables c = IfOk-from_err c.from_residual.result _ c.from_residual.ensures.0

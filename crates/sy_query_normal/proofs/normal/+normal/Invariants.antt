@@ -1,8 +1,0 @@
-use Rattle.std.proofs.Common.{take}
-use Rattle.sy_terms.specs.Denoted.{exprs_of}
-use Rattle.sy_meaning_words.specs.Vectors.{vector}
-use Rattle.sy_rewrite_orders.specs.Sums.{AreSameOver}
-use Rattle.sy_query_normal.proofs.normal.+normal.Given as goal
-
-abbrev pub invariant-all_normal-loop-term : goal.invariant-all_normal-loop-term
-invariant-all_normal-loop-term l = AreSameOver l.sorts (exprs_of vector l.all.items.items) (exprs_of vector (take l.term-index l.terms))

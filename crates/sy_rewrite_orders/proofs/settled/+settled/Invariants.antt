@@ -1,8 +1,0 @@
-use Rattle.std.proofs.Common.{take}
-use Rattle.sy_terms.specs.Denoted.{exprs_of}
-use Rattle.sy_meaning_words.specs.Vectors.{vector}
-use Rattle.sy_rewrite_orders.specs.Sums.{AreSameOver}
-use Rattle.sy_rewrite_orders.proofs.settled.+settled.Given as goal
-
-abbrev pub invariant-all_settled-loop-term : goal.invariant-all_settled-loop-term
-invariant-all_settled-loop-term l = AreSameOver l.sorts (exprs_of vector l.all.items.items) (exprs_of vector (take l.term-index l.terms))
