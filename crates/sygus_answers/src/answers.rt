@@ -2,7 +2,7 @@
 ghost use Rattle.std.specs.Prelude.{◌≡◌, ◌≢◌};
 ghost use Rattle.std.specs.Io.KnownBytes.{Appends};
 ghost use Rattle.sy_io.specs.Causes.{Rose};
-ghost use Rattle.sygus_answers.specs.Begun.{BeginsLine};
+ghost use Rattle.sy_io.specs.Sink.{AppendsProperPrefix};
 
 use sy_bits::{BvProof, BvSpent};
 use sy_intsolve::{IntSpent, Tree};
@@ -52,8 +52,8 @@ pub fn unanswered<E: Sink>(err: &mut E, line: &[u8], status: u8) -> Ended
     ensures written { result.status ≢ 5 → (result.status ≡ status) × Appends (E.written err.old) (E.written err.new)
         line.now }
     ensures fault { result.status ≡ 5 → status ≢ 5 → Rose (E.faults err.old) (E.faults err.new) }
-    ensures begun { result.status ≡ 5 → status ≢ 5 → BeginsLine (λ other. other ≡ line.now) (E.written err.old)
-        (E.written err.new) }
+    ensures begun { result.status ≡ 5 → status ≢ 5 → AppendsProperPrefix (E.written err.old) (E.written err.new)
+        line.now }
 {
     Ended {
         status: last(err, line, status),

@@ -37,9 +37,8 @@ use Rattle.sygus_words.specs.Inputs.{AskDrill}
 use Rattle.sygus_words.proofs.Asking.{one_drill_asked}
 use Rattle.sygus_answers.proofs.Named.{bits_named}
 use Rattle.sygus_answers.specs.Answers.{AreNamedFor}
-use Rattle.sygus_answers.specs.Begun.{BeginsLine}
+use Rattle.sy_io.specs.Sink.{AppendsProperPrefix}
 use Rattle.sygus_replies.specs.Texts.{memory_line}
-use Rattle.sygus_replies.proofs.Steps.{appended_nothing}
 use Rattle.sygus_drills.specs.Drills.{Drilled, EndsDrill, IsProblemOf}
 use Rattle.sygus_answers.specs.declared.answers.Answers.{Answers}
 use Rattle.sygus_answers.specs.declared.answers.Answers.TheVariants.{Idle, Bits}
@@ -171,7 +170,7 @@ high (suc (suc (suc (suc zero)))) h = let e = h (λ e. omega (arith, e)) in omeg
 high (suc (suc (suc (suc (suc n))))) h = omega arith
 
 pub ends_idle : (number : ℕ) (limits : Limits) (status : ℕ) (answers : Answers) (out out' err err' : Option (List ℕ)) → (status ≢ 5 → status ≡ 6) → answers ≡ Idle → out' ≡ out
-    → (status ≡ 5 → BeginsLine (λ line. line ≡ memory_line) err err') → EndsDrill number limits status answers out out' err err'
+    → (status ≡ 5 → AppendsProperPrefix err err' memory_line) → EndsDrill number limits status answers out out' err err'
 ends_idle number limits status answers out out' err err' six idle same begun =
     let least = high status six in
     record {
@@ -179,7 +178,7 @@ ends_idle number limits status answers out out' err err' six idle same begun =
       answered = λ small. absurd (omega (arith, least, small));
       silent = λ small. absurd (omega (arith, least, small));
       cut_off = λ is. inl (idle, same);
-      cut_line = begun;
+      cut_line = λ is. inl (idle, begun is);
       memory = λ is. (idle, same);
     }
 
@@ -191,7 +190,7 @@ ends_drilled number limits status answers out out' err err' (inl small) answered
   answered = answered;
   silent = λ is. same;
   cut_off = λ is. inr (cut_off is);
-  cut_line = λ is. absurd (omega (arith, small, is));
+  cut_line = λ is. inr same;
   memory = λ is. absurd (omega (arith, small, is));
 }
 ends_drilled number limits status answers out out' err err' (inr five) answered cut_off same = record {
@@ -199,6 +198,6 @@ ends_drilled number limits status answers out out' err err' (inr five) answered 
   answered = answered;
   silent = λ is. same;
   cut_off = λ is. inr (cut_off is);
-  cut_line = λ is. record { line = memory_line; is = refl; count = 0; begun = rw same (appended_nothing err) };
+  cut_line = λ is. inr same;
   memory = λ is. absurd (omega (arith, five, is));
 }

@@ -1,6 +1,7 @@
 -- How a run in mode `drill` may end.
 use Rattle.std.specs.Prelude.{ℕ, ◌≡◌, ◌≤◌, ◌⊎◌, List, [], ◌∷◌, map, take, Option, Ok}
 use Rattle.std.specs.Io.KnownBytes.{Appends}
+use Rattle.sy_io.specs.Sink.{AppendsProperPrefix}
 use Rattle.sy_grammar_base.specs.Questions.{question_of}
 use Rattle.sy_grammar_base.specs.declared.problem.Problem.{Problem}
 use Rattle.sy_meaning_words.specs.Vectors as vectors
@@ -18,7 +19,6 @@ use Rattle.sygus_drills.specs.DrillAnswers.{drill_end}
 use Rattle.sygus_answers.specs.declared.answers.Answers.{Answers}
 use Rattle.sygus_answers.specs.declared.answers.Answers.TheVariants.{Idle}
 use Rattle.sygus_answers.specs.Answers.{replies_of, AreOfLogic}
-use Rattle.sygus_answers.specs.Begun.{BeginsLine}
 use Rattle.sygus_replies.specs.Texts.{memory_line}
 use Rattle.sygus_answers.specs.RightAnswers.{AreRightAnswers}
 
@@ -45,12 +45,12 @@ abbrev pub IsDrillCutOff : ℕ → Limits → Answers → Option (List ℕ) → 
 IsDrillCutOff number limits answers out out' = ((answers ≡ Idle) × (out' ≡ out))
     ⊎ Drilled number limits answers (λ line. (count : ℕ) × Appends out out' (take count line))
 
--- no file is refused or can't be read; at 0 and 1 the line is written, and nothing to the error output; at 5 no more than a
--- front of the line on want of memory stands there; at 6 nothing is answered
+-- no file is refused or can't be read; at 0 and 1 the line is written, and nothing to the error output; nor is at 5, unless
+-- nothing was answered, and a front of the line that memory was wanted stands there; at 6 nothing is answered
 pub record EndsDrill (number : ℕ) (limits : Limits) (status : ℕ) (answers : Answers) (out out' err err' : Option (List ℕ)) : Type 0 where
   pub only : (status ≤ 1) ⊎ (5 ≤ status)
   pub answered : status ≤ 1 → Drilled number limits answers (Appends out out')
   pub silent : status ≤ 1 → err' ≡ err
   pub cut_off : status ≡ 5 → IsDrillCutOff number limits answers out out'
-  pub cut_line : status ≡ 5 → BeginsLine (λ line. line ≡ memory_line) err err'
+  pub cut_line : status ≡ 5 → ((answers ≡ Idle) × AppendsProperPrefix err err' memory_line) ⊎ (err' ≡ err)
   pub memory : status ≡ 6 → (answers ≡ Idle) × (out' ≡ out)

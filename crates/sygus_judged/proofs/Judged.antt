@@ -1,8 +1,9 @@
 -- Judgements of the replies in a file.
-use Rattle.std.proofs.Common.{inl, inr, refl, sym, ap, ◌∙◌, ◌≡◌, ◌≤◌, ℕ, List, [], ◌∷◌, length, map, take, arith}
+use Rattle.std.proofs.Common.{inl, inr, refl, sym, ap, ◌∙◌, ◌≡◌, ◌≤◌, ℕ, List, [], length, map, arith}
 use Rattle.std.proofs.lemmas.List.{length-map}
 use Rattle.std.specs.Prelude.{◌⊎◌, Bool, Option, Some, None, Ok, Err}
 use Rattle.std.specs.Io.KnownBytes.{Appends}
+use Rattle.sy_io.specs.Sink.{AppendsProperPrefix}
 use Rattle.sy_terms.specs.Values.{Val}
 use Rattle.sy_terms.specs.declared.sort.Logic.{Logic}
 use Rattle.sy_terms.specs.declared.sort.Logic.TheVariants.{Lia}
@@ -27,9 +28,9 @@ use Rattle.sy_scope_names.specs.Jobs.{Wish, wished}
 use Rattle.sy_scope_steps.specs.Files.{file_read}
 use Rattle.sygus_answers.specs.declared.answers.Answers.{Answers}
 use Rattle.sygus_answers.specs.declared.answers.Answers.TheVariants.{Idle}
-use Rattle.sygus_answers.specs.Begun.{BeginsLine}
+use Rattle.sygus_answers.specs.Begun.{BeginsLast}
 use Rattle.sygus_judged.specs.Claimed.{EndsClaims, EndsReplies, IsTold, IsLineFor, IsReplyLine, RefusesStatements, StopsReplies}
-use Rattle.sygus_judged.specs.Ends.{JudgesFile, RefusesReplies, StopsJudging, IsFileLine, wants, refuses_replies}
+use Rattle.sygus_judged.specs.Ends.{JudgesFile, RefusesReplies, StopsJudging, IsFileLine, refuses_replies}
 use Rattle.sygus_judged.specs.Judging.{AreOfMode, AreRightVerdicts, JudgesReplies, WritesVerdicts, WritesLines, WritesLinesCut, replies_read, verdicts_of, wants_proofs}
 
 -- what the status of a judging rules out
@@ -58,7 +59,7 @@ module _ {T N F : Type 0} (number : N → Val) (verdict : F → Verdict) (logic 
   pub ends_kept : AreOfLogic (Some logic) answers → AreOfMode settings.mode answers → AreRightVerdicts settings.limits (map (question_of number) problems) statements answers → replies_of answers ≡ [] → AreNamedFor answers → verdicts_of answers ≡ map (verdict_on verdict) found
       → (status ≤ 1) ⊎ ((status ≡ 5) ⊎ (status ≡ 6)) → (status ≤ 1 → length found ≡ length problems) → (status ≤ 1 → Appends out out' (verdict_lines titles 1 (map (verdict_on verdict) found))) → (status ≤ 1 → status ≡ verdicts_status (map (verdict_on verdict) found)) → (status ≤ 1 → err' ≡ err)
       → (status ≡ 5 → WritesMostLines titles (map (verdict_on verdict) found) out out') → (status ≡ 6 → Appends out out' (verdict_lines titles 1 (map (verdict_on verdict) found))) → (status ≡ 6 → Appends err err' memory_line)
-      → (status ≡ 5 → (count : ℕ) × Appends err err' (take count memory_line)) → EndsClaims settings (wish_over number logic (problems, titles)) statements status answers out out' err err'
+      → (status ≡ 5 → AppendsProperPrefix err err' memory_line) → EndsClaims settings (wish_over number logic (problems, titles)) statements status answers out out' err err'
   ends_kept kept mode right unsolved named verdicts within every lined good silent cut memory line begun = record {
     only = within;
     logic = kept;
@@ -96,7 +97,7 @@ module _ (settings : Settings) (file : List ℕ) (at : ℕ) (wish : Wish) (state
     named = ends.named;
     judged = λ small. judges (WritesVerdicts status answers out out' err err') (ends.judged small);
     cut_off = λ is. inr (judges (WritesLinesCut answers out out') (ends.cut_off is));
-    cut_line = λ is. (let one = ends.cut_line is in record { line = memory_line; is = inl refl; count = one.0; begun = one.1 });
+    cut_line = λ is. inr (ends.cut_line is);
     memory = λ is. inr (judges (WritesLines answers out out') (ends.memory is));
     memory_line = ends.memory_line;
     refused = λ is. absurd (never_seven status ends.only is);
@@ -111,23 +112,23 @@ told (reply_ends.Refused refused) read file err err' is line = record { refused 
 
 -- the front of the line that tells why there are no statements
 line_told : (end : ReplyEnd) (read : ReplyReading (List Statement)) (file line : List ℕ) → RepliesEndAs end read → IsLineFor end file line → IsReplyLine read file line
-line_told reply_ends.Want read file line is one = inl one
-line_told (reply_ends.Refused refused) read file line is (inl one) = inl one
-line_told (reply_ends.Refused refused) read file line is (inr one) = inr (refused, is, one)
+line_told reply_ends.Want read file line is one = absurd one
+line_told (reply_ends.Refused refused) read file line is one = (refused, is, one)
 
-begins_told : (end : ReplyEnd) (read : ReplyReading (List Statement)) (file : List ℕ) (err err' : Option (List ℕ)) → RepliesEndAs end read → BeginsLine (IsLineFor end file) err err' → BeginsLine (IsReplyLine read file) err err'
-begins_told end read file err err' is one = record { line = one.line; is = line_told end read file one.line is one.is; count = one.count; begun = one.begun }
+begins_told : (end : ReplyEnd) (read : ReplyReading (List Statement)) (file : List ℕ) (answers : Answers) (err err' : Option (List ℕ)) → RepliesEndAs end read → BeginsLast (IsLineFor end file) answers err err' → BeginsLast (IsReplyLine read file) answers err err'
+begins_told end read file answers err err' is (inl one) = inl (one.0, record { line = one.1.line; is = line_told end read file one.1.line is one.1.is; begun = one.1.begun })
+begins_told end read file answers err err' is (inr one) = inr one
 
 pub ends_told : (settings : Settings) (file : List ℕ) (at : ℕ) (wish : Wish) (end : ReplyEnd) (status : ℕ) (answers : Answers) (out out' err err' : Option (List ℕ)) → RepliesEndAs end (replies_read (wants_proofs settings.mode) file at wish) → (5 ≤ status) × (status ≤ 7) → answers ≡ Idle → out' ≡ out
     → (status ≡ 6 → Appends err err' memory_line) → (status ≡ 7 → IsTold end file err err')
-    → (status ≡ 5 → BeginsLine (IsLineFor end file) err err') → EndsReplies settings file at wish status answers out out' err err'
+    → (status ≡ 5 → BeginsLast (IsLineFor end file) answers err err') → EndsReplies settings file at wish status answers out out' err err'
 ends_told settings file at wish end status answers out out' err err' ended within idle same line tells begun = record {
   only = inr within;
   unsolved = rw idle refl;
   named = rw idle tt;
   judged = λ small. absurd (omega (arith, small, within.0));
   cut_off = λ is. inl (idle, same);
-  cut_line = λ is. begins_told end (replies_read (wants_proofs settings.mode) file at wish) file err err' ended (begun is);
+  cut_line = λ is. begins_told end (replies_read (wants_proofs settings.mode) file at wish) file answers err err' ended (begun is);
   memory = λ is. inl (idle, same);
   memory_line = line;
   refused = λ is. told end (replies_read (wants_proofs settings.mode) file at wish) file err err' ended (tells is);
@@ -197,8 +198,9 @@ module _ (settings : Settings) (file : List ℕ) (wish : Wish) (reads : wished (
   }
 
   line_of : (line : List ℕ) → IsReplyLine (replies_read (wants_proofs settings.mode) file (front_length file) wish) file line → IsFileLine settings file line
-  line_of line (inl one) = wants one
-  line_of line (inr one) = refuses_replies wish one.0 reads one.1 one.2
+  line_of line one = refuses_replies wish one.0 reads one.1 one.2
 
-  pub begins_file : (err err' : Option (List ℕ)) → BeginsLine (IsReplyLine (replies_read (wants_proofs settings.mode) file (front_length file) wish) file) err err' → BeginsLine (IsFileLine settings file) err err'
-  begins_file err err' one = record { line = one.line; is = line_of one.line one.is; count = one.count; begun = one.begun }
+  pub begins_file : (answers : Answers) (err err' : Option (List ℕ)) → BeginsLast (IsReplyLine (replies_read (wants_proofs settings.mode) file (front_length file) wish) file) answers err err' →
+      BeginsLast (IsFileLine settings file) answers err err'
+  begins_file answers err err' (inl one) = inl (one.0, record { line = one.1.line; is = line_of one.1.line one.1.is; begun = one.1.begun })
+  begins_file answers err err' (inr one) = inr one

@@ -11,9 +11,10 @@ use Rattle.sy_scope_names.specs.Jobs.{Wish, wished}
 use Rattle.sy_scope_steps.specs.Files.{file_read}
 use Rattle.sygus_answers.specs.declared.answers.Answers.{Answers}
 use Rattle.sygus_answers.specs.declared.answers.Answers.TheVariants.{Idle}
-use Rattle.sygus_words.specs.Inputs.{Names, longest}
-use Rattle.sygus_replies.specs.Texts.{too_long_line, read_line, memory_line}
-use Rattle.sygus_answers.specs.Begun.{BeginsLine}
+use Rattle.sygus_words.specs.Inputs.{AskReplies, HasNoInput, Names, longest}
+use Rattle.sygus_words.specs.declared.input.InputFault.{InputFault}
+use Rattle.sygus_replies.specs.Texts.{too_long_line}
+use Rattle.sygus_answers.specs.Begun.{BeginsLast, fault_line}
 use Rattle.sygus_words.specs.declared.settings.Settings.{Settings}
 use Rattle.sygus_judged.specs.Judging.{JudgesReplies, WritesVerdicts, WritesLines, WritesLinesCut, replies_read, wants_proofs}
 
@@ -37,9 +38,8 @@ pub record RefusesReplies (settings : Settings) (file : List ℕ) (err err' : Op
   pub stated : replies_read (wants_proofs settings.mode) file (front_length file) wish ≡ Err refused
   pub line : Appends err err' (reply_refusal_line file refused)
 
--- a line with which the judging of a file's replies ends: that memory was wanted, or the refusal of its front or of its replies
+-- the line that refuses the front of the file, or its replies
 pub data IsFileLine (settings : Settings) (file line : List ℕ) : Type 0 where
-  wants : line ≡ memory_line → IsFileLine settings file line
   refuses_front : (refused : Refused) → wished (file_read (front file)) ≡ Err refused → line ≡ refusal_line file refused → IsFileLine settings file line
   refuses_replies : (wish : Wish) (refused : ReplyRefused) → wished (file_read (front file)) ≡ Ok wish → replies_read (wants_proofs settings.mode) file (front_length file) wish ≡ Err refused →
       line ≡ reply_refusal_line file refused → IsFileLine settings file line
@@ -71,22 +71,20 @@ pub record RepliesAreRefused (words : List (List ℕ)) (held : Option Holding) (
   pub short : length file ≤ longest
   pub refuses : RefusesReplies settings file err err'
 
--- such a line for the file that words name, or the line that it can't be read, or is too long
-pub data IsJudgingLine (words : List (List ℕ)) (held : Option Holding) (line : List ℕ) : Type 0 where
-  of_file : (settings : Settings) (file : List ℕ) → Names words held settings file → IsFileLine settings file line → IsJudgingLine words held line
-  unread : line ≡ read_line → IsJudgingLine words held line
-  long : (settings : Settings) (file : List ℕ) → Names words held settings file → longest < length file → line ≡ too_long_line → IsJudgingLine words held line
-  no_memory : line ≡ memory_line → IsJudgingLine words held line
+-- the line that tells why there is no input, by the source's counts of faults, or such a line for the file that words name
+pub data IsJudgingLine (words : List (List ℕ)) (held : Option Holding) (read read' : ℕ) (line : List ℕ) : Type 0 where
+  of_fault : (fault : InputFault) → HasNoInput words held read read' fault → line ≡ fault_line fault → IsJudgingLine words held read read' line
+  of_file : (settings : Settings) (file : List ℕ) → AskReplies words held settings file → IsFileLine settings file line → IsJudgingLine words held read read' line
 
 -- at 0 and 1 each reply has its verdict, and the lines of all are written; at 2, 4 and 7 nothing is; at 5 and 6 the
 -- verdicts so far are right, and their lines are written, at 5 cut off in the last, with no more than the front of one line on
 -- the error output
-pub record EndsJudged (words : List (List ℕ)) (held : Option Holding) (status : ℕ) (answers : Answers) (out out' err err' : Option (List ℕ)) : Type 0 where
+pub record EndsJudged (words : List (List ℕ)) (held : Option Holding) (read read' status : ℕ) (answers : Answers) (out out' err err' : Option (List ℕ)) : Type 0 where
   pub only : (status ≤ 2) ⊎ ((4 ≤ status) × (status ≤ 7))
   pub judged : status ≤ 1 → Judges words held answers (WritesVerdicts status answers out out' err err')
   pub front_refused : status ≡ 2 → FrontIsRefused words held err err'
   pub reply_refused : status ≡ 7 → RepliesAreRefused words held err err'
   pub nothing : (status ≡ 2) ⊎ ((status ≡ 4) ⊎ (status ≡ 7)) → (answers ≡ Idle) × (out' ≡ out)
   pub cut_off : status ≡ 5 → ((answers ≡ Idle) × (out' ≡ out)) ⊎ Judges words held answers (WritesLinesCut answers out out')
-  pub cut_line : status ≡ 5 → BeginsLine (IsJudgingLine words held) err err'
+  pub cut_line : status ≡ 5 → BeginsLast (IsJudgingLine words held read read') answers err err'
   pub memory : status ≡ 6 → ((answers ≡ Idle) × (out' ≡ out)) ⊎ Judges words held answers (WritesLines answers out out')

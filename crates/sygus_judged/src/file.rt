@@ -3,7 +3,7 @@ ghost use Rattle.std.specs.Prelude.{◌≡◌, ◌≤◌, ◌⊎◌, [], length,
 ghost use Rattle.std.specs.Io.KnownBytes.{Appends};
 ghost use Rattle.sy_io.specs.Causes.{Rose};
 ghost use Rattle.sygus_answers.specs.Answers.{replies_of, AreNamedFor};
-ghost use Rattle.sygus_answers.specs.Begun.{BeginsLine};
+ghost use Rattle.sygus_answers.specs.Begun.{BeginsLast};
 ghost use Rattle.sygus_words.specs.Inputs.{judges, longest};
 ghost use Rattle.sygus_verdicts.specs.Lines.{memory_line};
 ghost use Rattle.sygus_judged.specs.Ends.{IsFileLine, JudgesFile, RefusesFront, RefusesReplies, StopsJudging};
@@ -52,8 +52,8 @@ pub fn judge_file<O: Sink, E: Sink>(
     ensures cut_off { result.status ≡ 5 → StopsJudging settings.now file.now result.answers (O.written out.old)
         (O.written out.new)
         (WritesLinesCut result.answers (O.written out.old) (O.written out.new)) }
-    ensures cut_line { result.status ≡ 5 → BeginsLine (IsFileLine settings.now file.now) (E.written err.old)
-        (E.written err.new) }
+    ensures cut_line { result.status ≡ 5 → BeginsLast (IsFileLine settings.now file.now) result.answers
+        (E.written err.old) (E.written err.new) }
 
     // 6: out of memory
     ensures memory { result.status ≡ 6 → StopsJudging settings.now file.now result.answers (O.written out.old)

@@ -18,7 +18,7 @@ ghost use Rattle.sygus_verdicts.specs.Lines.{memory_line};
 ghost use Rattle.sygus_words.specs.Inputs.{judges};
 ghost use Rattle.sygus_judged.specs.Claimed.{EndsClaims, EndsReplies, IsLineFor, IsTold};
 ghost use Rattle.sygus_judged.specs.Judging as spec;
-ghost use Rattle.sygus_answers.specs.Begun.{BeginsLine};
+ghost use Rattle.sygus_answers.specs.Begun.{BeginsLast};
 
 use std::alloc::Global;
 use sy_bits::BvDecide;
@@ -262,7 +262,8 @@ fn refused_replies<E: Sink>(alloc: Global, file: &[u8], end: ReplyEnd, err: &mut
     ensures write { result.status ≡ 5 → Rose (E.faults err.old) (E.faults err.new) }
     ensures memory_line { result.status ≡ 6 → Appends (E.written err.old) (E.written err.new) memory_line }
     ensures refused { result.status ≡ 7 → IsTold end file.now (E.written err.old) (E.written err.new) }
-    ensures cut_line { result.status ≡ 5 → BeginsLine (IsLineFor end file.now) (E.written err.old) (E.written err.new) }
+    ensures cut_line { result.status ≡ 5 → BeginsLast (IsLineFor end file.now) result.answers
+        (E.written err.old) (E.written err.new) }
 {
     match end {
         ReplyEnd::Refused(refused) => match reply_refusal_text(alloc, file, &refused) {

@@ -2,6 +2,7 @@
 ghost use Rattle.std.specs.Prelude.{◌≡◌, ◌≢◌, ◌≤◌, ◌⊎◌, take, OnOk, OnErr, ℕ};
 ghost use Rattle.std.specs.Io.KnownBytes.{Appends};
 ghost use Rattle.sy_io.specs.Causes.{Rose};
+ghost use Rattle.sy_io.specs.Sink.{AppendsProperPrefix};
 
 use sy_io::{Sink, write_whole};
 
@@ -13,8 +14,7 @@ pub struct WriteFault;
 pub fn last<E: Sink>(err: &mut E, line: &[u8], status: u8) -> u8
     ensures written { result ≢ 5 → (result ≡ status) × Appends (E.written err.old) (E.written err.new) line.now }
     ensures fault { result ≡ 5 → status ≢ 5 → Rose (E.faults err.old) (E.faults err.new) }
-    ensures begun { result ≡ 5 → status ≢ 5 → (count : ℕ) × Appends (E.written err.old) (E.written err.new)
-        (take count line.now) }
+    ensures begun { result ≡ 5 → status ≢ 5 → AppendsProperPrefix (E.written err.old) (E.written err.new) line.now }
     ensures later { E.faults err.old ≤ E.faults err.new }
 {
     match write_whole(err, line) {

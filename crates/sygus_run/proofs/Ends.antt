@@ -3,6 +3,7 @@ use Rattle.std.proofs.Common.{inl, inr, refl, ◌≡◌, ◌≢◌, ◌≤◌, �
 use Rattle.std.specs.Prelude.{◌⊎◌, Bool, Option, Ok}
 use Rattle.std.specs.Io.KnownBytes.{Appends}
 use Rattle.sy_io.specs.Causes.{Rose}
+use Rattle.sy_io.specs.Sink.{AppendsProperPrefix}
 use Rattle.sy_io.specs.Source.{Holding}
 use Rattle.sy_query_limits.specs.declared.Limits.{Limits}
 use Rattle.sy_scope_steps.specs.Files.{file_read}
@@ -10,8 +11,9 @@ use Rattle.sy_scope_names.specs.Jobs.{Wish, wished}
 use Rattle.sygus_words.specs.Inputs.{AskDrill, AskJudging, AskFile, AskReplies, HasNoInput, HaveNoReading}
 use Rattle.sygus_words.specs.declared.input.InputFault.{InputFault}
 use Rattle.sygus_words.specs.declared.input.InputFault.TheVariants as faults
-use Rattle.sygus_answers.specs.Begun.{BeginsLine}
-use Rattle.sygus_judged.specs.Ends.{EndsJudged, FrontIsRefused, IsFileLine, IsJudgingLine, of_file, unread, long, no_memory, Judges, JudgesFile, RefusesFront, RefusesReplies, StopsJudging}
+use Rattle.sygus_answers.specs.Begun.{BeginsLast, BeginsLine, fault_line}
+use Rattle.sygus_judged.specs.Ends.{EndsJudged, FrontIsRefused, IsFileLine, IsJudgingLine, Judges, JudgesFile, RefusesFront, RefusesReplies, StopsJudging}
+use Rattle.sygus_judged.specs.Ends as judging
 use Rattle.sygus_judged.specs.Judging.{WritesVerdicts, WritesLines, WritesLinesCut}
 use Rattle.sygus_replies.specs.Texts.{answer_lines, words_line, read_line, memory_line}
 use Rattle.sygus_answers.proofs.Lines.{idle_line}
@@ -21,7 +23,8 @@ use Rattle.sygus_answers.specs.Answers.{replies_of}
 use Rattle.sygus_drills.specs.Drills.{EndsDrill}
 use Rattle.sygus_replies.specs.Answered.{WritesMostFails}
 use Rattle.sygus_solve.specs.Files.{AnswersFile, IsRefusalLine, RefusesFile, Stops, WritesAll, WritesCut, WritesTexts}
-use Rattle.sygus_run.specs.Runs.{Answered, FileIsRefused, IsCutOff, IsLineCutOff, IsSolvingLine, of_words, of_read, of_length, of_memory, of_refusal, Midway, PosesFile, WantsMemory, fault_line, fault_status}
+use Rattle.sygus_run.specs.Runs.{Answered, FileIsRefused, IsCutOff, IsLineCutOff, Midway, PosesFile, WantsMemory, fault_status}
+use Rattle.sygus_run.specs.Runs as solving
 use Rattle.sygus_answers.specs.declared.answers.Answers.{Answers}
 use Rattle.sygus_answers.specs.declared.answers.Answers.TheVariants.{Idle}
 
@@ -62,10 +65,11 @@ module _ (words : List (List ℕ)) (held : Option Holding) (settings : Settings)
   cut_off answers out out' (inl nothing) = inl nothing
   cut_off answers out out' (inr at) = inr (midway answers (λ proofs. WritesCut proofs answers out out') at)
 
-  pub cut_lines : (answers : Answers) (err err' : Option (List ℕ)) → ((answers ≡ Idle) × BeginsLine (IsRefusalLine file) err err') ⊎ WritesMostFails (replies_of answers) err err' → IsLineCutOff words held answers err err'
-  cut_lines answers err err' (inl nothing) =
-      inl (nothing.0, record { line = nothing.1.line; is = of_refusal settings file asked.named nothing.1.is; count = nothing.1.count; begun = nothing.1.begun })
-  cut_lines answers err err' (inr lines) = inr lines
+  pub cut_lines : (read read' : ℕ) (answers : Answers) (err err' : Option (List ℕ)) → ((answers ≡ Idle) × BeginsLine (IsRefusalLine file) err err') ⊎ WritesMostFails (replies_of answers) err err' → IsLineCutOff words held read read' answers err err'
+  cut_lines read read' answers err err' (inl nothing) =
+      let front = nothing.1 in
+      inl (nothing.0, record { line = front.line; is = solving.of_refusal settings file asked front.is.0 front.is.1 front.is.2; begun = front.begun })
+  cut_lines read read' answers err err' (inr lines) = inr lines
 
   pub wants_memory : (answers : Answers) (out out' : Option (List ℕ)) → Stops settings file answers out out' (WritesTexts settings.proofs answers out out') → WantsMemory words held answers out out'
   wants_memory answers out out' (inl nothing) = inl nothing
@@ -105,11 +109,17 @@ module _ (words : List (List ℕ)) (held : Option Holding) (settings : Settings)
   nothing status A (inl low) two seven (inr (inl is)) = absurd (omega (arith, low, is))
   nothing status A (inr high) two seven (inr (inl is)) = absurd (omega (arith, high.0, is))
 
-  pub ends_judged : (status : ℕ) (answers : Answers) (out out' err err' : Option (List ℕ)) → (status ≤ 2) ⊎ ((5 ≤ status) × (status ≤ 7)) → (status ≤ 1 → JudgesFile settings file answers (WritesVerdicts status answers out out' err err'))
+  front_begun : (read read' : ℕ) (answers : Answers) (err err' : Option (List ℕ)) → BeginsLast (IsFileLine settings file) answers err err' → BeginsLast (IsJudgingLine words held read read') answers err err'
+  front_begun read read' answers err err' (inl nothing) =
+      let front = nothing.1 in
+      inl (nothing.0, record { line = front.line; is = judging.of_file settings file asked front.is; begun = front.begun })
+  front_begun read read' answers err err' (inr line) = inr line
+
+  pub ends_judged : (read read' status : ℕ) (answers : Answers) (out out' err err' : Option (List ℕ)) → (status ≤ 2) ⊎ ((5 ≤ status) × (status ≤ 7)) → (status ≤ 1 → JudgesFile settings file answers (WritesVerdicts status answers out out' err err'))
       → (status ≡ 2 → RefusesFront file err err') → (status ≡ 7 → RefusesReplies settings file err err') → (status ≡ 2 → (answers ≡ Idle) × (out' ≡ out)) → (status ≡ 7 → (answers ≡ Idle) × (out' ≡ out))
       → (status ≡ 5 → StopsJudging settings file answers out out' (WritesLinesCut answers out out')) → (status ≡ 6 → StopsJudging settings file answers out out' (WritesLines answers out out'))
-      → (status ≡ 5 → BeginsLine (IsFileLine settings file) err err') → EndsJudged words held status answers out out' err err'
-  ends_judged status answers out out' err err' within judged front replies two seven cut memory begun = record {
+      → (status ≡ 5 → BeginsLast (IsFileLine settings file) answers err err') → EndsJudged words held read read' status answers out out' err err'
+  ends_judged read read' status answers out out' err err' within judged front replies two seven cut memory begun = record {
     only = only status within;
     judged = λ small. judges answers (WritesVerdicts status answers out out' err err') (judged small);
     front_refused = λ is. record {
@@ -127,7 +137,7 @@ module _ (words : List (List ℕ)) (held : Option Holding) (settings : Settings)
     };
     nothing = nothing status ((answers ≡ Idle) × (out' ≡ out)) within two seven;
     cut_off = λ is. stops answers out out' (WritesLinesCut answers out out') (cut is);
-    cut_line = λ is. (let one = begun is in record { line = one.line; is = of_file settings file asked.named one.is; count = one.count; begun = one.begun });
+    cut_line = λ is. front_begun read read' answers err err' (begun is);
     memory = λ is. stops answers out out' (WritesLines answers out out') (memory is);
   }
 
@@ -166,7 +176,7 @@ module _ (words : List (List ℕ)) (held : Option Holding) (before now : ℕ) (s
 
   -- a drill has input, unless memory is wanted
   pub ends_no_drill : (fault : InputFault) (number : ℕ) (limits : Limits) (answers : Answers) (out out' : Option (List ℕ)) → HasNoInput words held before now fault → (status ≢ 5 → (status ≡ fault_status fault) × Appends err err' (fault_line fault))
-      → (status ≡ 5 → BeginsLine (λ line. line ≡ fault_line fault) err err') → AskDrill words number limits → answers ≡ Idle → out' ≡ out → EndsDrill number limits status answers out out' err err'
+      → (status ≡ 5 → AppendsProperPrefix err err' (fault_line fault)) → AskDrill words number limits → answers ≡ Idle → out' ≡ out → EndsDrill number limits status answers out out' err err'
   ends_no_drill faults.Words number limits answers out out' why ends begun asked idle same = absurd (why asked.settings asked.accepted)
   ends_no_drill faults.Read number limits answers out out' why ends begun asked idle same = absurd (why.0 number limits asked)
   ends_no_drill faults.TooLong number limits answers out out' why ends begun asked idle same = absurd (why.0 number limits asked)
@@ -185,7 +195,7 @@ module _ (words : List (List ℕ)) (held : Option Holding) (before now : ℕ) (s
   front_long faults.Want why ends is = absurd (omega (arith, (ends (λ e. omega (arith, e, is))).0, is))
 
   idle_ends : (answers : Answers) (out out' : Option (List ℕ)) → (2 ≤ status) × (status ≤ 6) → (status ≡ 3 → ⊥) → (status ≡ 2 → FrontIsRefused words held err err')
-      → (status ≡ 5 → BeginsLine (IsJudgingLine words held) err err') → answers ≡ Idle → out' ≡ out → EndsJudged words held status answers out out' err err'
+      → (status ≡ 5 → BeginsLast (IsJudgingLine words held before now) answers err err') → answers ≡ Idle → out' ≡ out → EndsJudged words held before now status answers out out' err err'
   idle_ends answers out out' within other front begun idle same = record {
     only = within_ends status within.0 other within.1;
     judged = λ small. absurd (omega (arith, small, within.0));
@@ -197,42 +207,26 @@ module _ (words : List (List ℕ)) (held : Option Holding) (before now : ℕ) (s
     memory = λ is. inl (idle, same);
   }
 
-  -- the line that says why there is no input
-  line_without : (fault : InputFault) → HasNoInput words held before now fault → AskJudging words → (line : List ℕ) → line ≡ fault_line fault → IsJudgingLine words held line
-  line_without faults.Words why asked line is = absurd (why asked.settings asked.accepted)
-  line_without faults.Read why asked line is = unread is
-  line_without faults.TooLong why asked line is = long why.1.settings why.1.file why.1.named why.1.long is
-  line_without faults.Want why asked line is = no_memory is
-
-  begins_without : (fault : InputFault) → HasNoInput words held before now fault → AskJudging words → (status ≡ 5 → BeginsLine (λ line. line ≡ fault_line fault) err err') → status ≡ 5 → BeginsLine (IsJudgingLine words held) err err'
-  begins_without fault why asked begun is =
-      let one = begun is in
-      record { line = one.line; is = line_without fault why asked one.line one.is; count = one.count; begun = one.begun }
+  -- the front of the line that says why there is no input
+  begins_without : (fault : InputFault) (answers : Answers) → HasNoInput words held before now fault → answers ≡ Idle → AppendsProperPrefix err err' (fault_line fault) → BeginsLast (IsJudgingLine words held before now) answers err err'
+  begins_without fault answers why idle begun = inl (idle, record { line = fault_line fault; is = judging.of_fault fault why refl; begun = begun })
 
   pub ends_unjudged : (fault : InputFault) (answers : Answers) (out out' : Option (List ℕ)) → (2 ≤ status) × (status ≤ 6) → HasNoInput words held before now fault → (status ≢ 5 → (status ≡ fault_status fault) × Appends err err' (fault_line fault))
-      → (status ≡ 5 → BeginsLine (λ line. line ≡ fault_line fault) err err') → AskJudging words → answers ≡ Idle → out' ≡ out → EndsJudged words held status answers out out' err err'
+      → (status ≡ 5 → AppendsProperPrefix err err' (fault_line fault)) → AskJudging words → answers ≡ Idle → out' ≡ out → EndsJudged words held before now status answers out out' err err'
   ends_unjudged faults.Words answers out out' within why ends begun asked idle same = absurd (why asked.settings asked.accepted)
   ends_unjudged faults.Read answers out out' within why ends begun asked idle same =
       idle_ends answers out out' within (λ is. omega (arith, (ends (λ e. omega (arith, e, is))).0, is)) (front_long faults.Read why ends)
-      (begins_without faults.Read why asked begun) idle same
+      (λ is. begins_without faults.Read answers why idle (begun is)) idle same
   ends_unjudged faults.TooLong answers out out' within why ends begun asked idle same =
       idle_ends answers out out' within (λ is. omega (arith, (ends (λ e. omega (arith, e, is))).0, is)) (front_long faults.TooLong why ends)
-      (begins_without faults.TooLong why asked begun) idle same
+      (λ is. begins_without faults.TooLong answers why idle (begun is)) idle same
   ends_unjudged faults.Want answers out out' within why ends begun asked idle same =
       idle_ends answers out out' within (λ is. omega (arith, (ends (λ e. omega (arith, e, is))).0, is)) (front_long faults.Want why ends)
-      (begins_without faults.Want why asked begun) idle same
-
--- the front of the line that says why there is no input
-line_unsolved : (words : List (List ℕ)) (held : Option Holding) (before now : ℕ) (fault : InputFault) → HasNoInput words held before now fault → (line : List ℕ) → line ≡ fault_line fault → IsSolvingLine words held line
-line_unsolved words held before now faults.Words why line is = of_words why is
-line_unsolved words held before now faults.Read why line is = of_read is
-line_unsolved words held before now faults.TooLong why line is = of_length why.1.settings why.1.file why.1.named why.1.long is
-line_unsolved words held before now faults.Want why line is = of_memory is
+      (λ is. begins_without faults.Want answers why idle (begun is)) idle same
 
 pub cuts_without : (words : List (List ℕ)) (held : Option Holding) (before now : ℕ) (fault : InputFault) (answers : Answers) (err err' : Option (List ℕ)) → HasNoInput words held before now fault →
-    answers ≡ Idle → BeginsLine (λ line. line ≡ fault_line fault) err err' → IsLineCutOff words held answers err err'
-cuts_without words held before now fault answers err err' why idle begun =
-    inl (idle, record { line = begun.line; is = line_unsolved words held before now fault why begun.line begun.is; count = begun.count; begun = begun.begun })
+    answers ≡ Idle → AppendsProperPrefix err err' (fault_line fault) → IsLineCutOff words held before now answers err err'
+cuts_without words held before now fault answers err err' why idle begun = inl (idle, record { line = fault_line fault; is = solving.of_fault fault why refl; begun = begun })
 
 pub wants_line : (status : ℕ) (fault : InputFault) (answers : Answers) (err err' : Option (List ℕ)) → (status ≢ 5 → (status ≡ fault_status fault) × Appends err err' (fault_line fault)) → answers ≡ Idle → status ≡ 6
     → Appends err err' (answer_lines 1 (replies_of answers) ++ memory_line)

@@ -25,7 +25,8 @@ use Rattle.sygus_answers.proofs.Complete.{answers_complete}
 use Rattle.sygus_solve.specs.Files.{AnswersFile, RefusesFile, WritesAll}
 use Rattle.sygus_judged.specs.Ends.{JudgesFile, RefusesFront, RefusesReplies}
 use Rattle.sygus_judged.specs.Judging.{replies_read, wants_proofs}
-use Rattle.sygus_run.specs.Runs.{EndsWhole, JudgesWhole, NamesKnown, SolvesWhole, fault_line, fault_status}
+use Rattle.sygus_answers.specs.Begun.{fault_line}
+use Rattle.sygus_run.specs.Runs.{EndsWhole, JudgesWhole, NamesKnown, SolvesWhole, fault_status}
 
 -- ---- statuses
 

@@ -3,7 +3,7 @@ use Rattle.std.specs.Prelude.{ℕ, Bool, ◌≡◌, ◌<◌, ◌≤◌, ◌⊎�
 use Rattle.std.specs.Io.KnownBytes.{Appends}
 use Rattle.sy_io.specs.Causes.{Rose}
 use Rattle.sy_io.specs.Source.{Holding}
-use Rattle.sygus_words.specs.Inputs.{HaveNoReading, Names, longest}
+use Rattle.sygus_words.specs.Inputs.{AskFile, HasNoInput, Names, longest}
 use Rattle.sygus_words.specs.declared.input.InputFault.{InputFault}
 use Rattle.sygus_words.specs.declared.input.InputFault.TheVariants as faults
 use Rattle.sy_query_limits.specs.declared.Limits.{Limits}
@@ -17,10 +17,9 @@ use Rattle.sy_reply.specs.declared.refused.ReplyRefused.{ReplyRefused}
 use Rattle.sy_scope.specs.Fronts.{front, front_length}
 use Rattle.sy_scope_steps.specs.Files.{file_read}
 use Rattle.sy_scope_names.specs.Jobs.{Wish, wished}
-use Rattle.sygus_replies.specs.Texts.{texts, answer_lines, words_line, read_line, too_long_line, memory_line}
+use Rattle.sygus_replies.specs.Texts.{texts, answer_lines, too_long_line}
 use Rattle.sygus_replies.specs.Answered.{WritesMost, WritesMostFails}
-use Rattle.sygus_solve.specs.Files.{IsRefusalLine}
-use Rattle.sygus_answers.specs.Begun.{BeginsLine}
+use Rattle.sygus_answers.specs.Begun.{BeginsLine, fault_line}
 use Rattle.sygus_answers.specs.declared.answers.Answers.{Answers}
 use Rattle.sygus_answers.specs.declared.answers.Answers.TheVariants.{Idle}
 use Rattle.sygus_answers.specs.Answers.{replies_of, shown_in, AreOfLogic}
@@ -64,18 +63,16 @@ pub record Midway (words : List (List ℕ)) (held : Option Holding) (answers : A
   pub right : AreRightAnswers settings.mode settings.limits wish.questions answers
   pub written : Written settings.proofs wish
 
--- a line with which a run ends that answers nothing, where no replies are judged: that the words are refused, the read failed,
--- the file is too long, memory was wanted, or the first fault of the file
-pub data IsSolvingLine (words : List (List ℕ)) (held : Option Holding) (line : List ℕ) : Type 0 where
-  of_words : HaveNoReading words → line ≡ words_line → IsSolvingLine words held line
-  of_read : line ≡ read_line → IsSolvingLine words held line
-  of_length : (settings : Settings) (file : List ℕ) → Names words held settings file → longest < length file → line ≡ too_long_line → IsSolvingLine words held line
-  of_memory : line ≡ memory_line → IsSolvingLine words held line
-  of_refusal : (settings : Settings) (file : List ℕ) → Names words held settings file → IsRefusalLine file line → IsSolvingLine words held line
+-- the line that tells why there is no input, by the source's counts of faults, or the first fault of the file that words name
+pub data IsSolvingLine (words : List (List ℕ)) (held : Option Holding) (read read' : ℕ) (line : List ℕ) : Type 0 where
+  of_fault : (fault : InputFault) → HasNoInput words held read read' fault → line ≡ fault_line fault → IsSolvingLine words held read read' line
+  of_refusal : (settings : Settings) (file : List ℕ) → AskFile words held settings file → (refused : Refused) → wished (file_read file) ≡ Err refused → line ≡ refusal_line file refused →
+      IsSolvingLine words held read read' line
 
--- on the error output stands the front of such a line, where nothing was answered, or the lines of the answers, the last cut off
-abbrev pub IsLineCutOff : List (List ℕ) → Option Holding → Answers → Option (List ℕ) → Option (List ℕ) → Type 0
-IsLineCutOff words held answers err err' = ((answers ≡ Idle) × BeginsLine (IsSolvingLine words held) err err') ⊎ WritesMostFails (replies_of answers) err err'
+-- on the error output stands the front of such a line, where nothing was answered, or the lines of the answers, and of want of
+-- memory, the last cut off
+abbrev pub IsLineCutOff : List (List ℕ) → Option Holding → ℕ → ℕ → Answers → Option (List ℕ) → Option (List ℕ) → Type 0
+IsLineCutOff words held read read' answers err err' = ((answers ≡ Idle) × BeginsLine (IsSolvingLine words held read read') err err') ⊎ WritesMostFails (replies_of answers) err err'
 
 -- a write failed: nothing was answered, or the texts were cut off in the last one
 abbrev pub IsCutOff : List (List ℕ) → Option Holding → Answers → Option (List ℕ) → Option (List ℕ) → Type 0
@@ -131,15 +128,9 @@ EndsWhole (Drill n) limits file status answers = status ≤ 1
 
 -- ---- without input
 
--- the status of a run without input, and its line
+-- the status of a run without input
 abbrev pub fault_status : InputFault → ℕ
 fault_status faults.Words = 3
 fault_status faults.Read = 4
 fault_status faults.TooLong = 2
 fault_status faults.Want = 6
-
-abbrev pub fault_line : InputFault → List ℕ
-fault_line faults.Words = words_line
-fault_line faults.Read = read_line
-fault_line faults.TooLong = too_long_line
-fault_line faults.Want = memory_line

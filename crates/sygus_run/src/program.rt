@@ -2,13 +2,14 @@
 ghost use Rattle.std.specs.Prelude.{ℕ, List, ◌≡◌, ◌≢◌, ◌≤◌, ◌⊎◌, ◌++◌, map, string_bytes, All, Any};
 ghost use Rattle.std.specs.Io.KnownBytes.{Appends};
 ghost use Rattle.sy_io.specs.Causes.{Rose};
+ghost use Rattle.sy_io.specs.Sink.{AppendsProperPrefix};
 ghost use Rattle.sygus_replies.specs.Replies.{IsSettled, IsFail};
 ghost use Rattle.sygus_replies.specs.Texts.{answer_lines, words_line, read_line, memory_line};
 ghost use Rattle.sygus_answers.specs.Answers.{replies_of, AreNamedFor};
-ghost use Rattle.sygus_answers.specs.Begun.{BeginsLine};
+ghost use Rattle.sygus_answers.specs.Begun.{fault_line};
 ghost use Rattle.sygus_words.specs.Inputs.{AskDrill, AskJudging, AskNoJudging, AskSolving, HaveNoReading};
 ghost use Rattle.sygus_run.specs.Runs.{Answered, EndsWhole, FileIsRefused, GoesWell, IsCutOff, IsLineCutOff};
-ghost use Rattle.sygus_run.specs.Runs.{NamesKnown, WantsMemory, fault_line, fault_status};
+ghost use Rattle.sygus_run.specs.Runs.{NamesKnown, WantsMemory, fault_status};
 ghost use Rattle.sygus_drills.specs.Drills.{EndsDrill};
 ghost use Rattle.sygus_judged.specs.Ends.{EndsJudged};
 ghost use Rattle.sy_query_limits.specs.declared.Limits.{Limits};
@@ -60,7 +61,8 @@ pub fn run<S: Source, O: Sink, E: Sink>(
 
     // modes check, recheck and clauses: each reply has its right verdict, and only there replies are refused
     ensures judged { AskJudging (map string_bytes words.now) →
-        EndsJudged (map string_bytes words.now) (S.held source.old) result.status result.answers
+        EndsJudged (map string_bytes words.now) (S.held source.old) (S.faults source.old) (S.faults source.new)
+        result.status result.answers
         (O.written out.old) (O.written out.new) (E.written err.old) (E.written err.new) }
     ensures reply_refused { result.status ≡ 7 → AskJudging (map string_bytes words.now) }
 
@@ -100,7 +102,7 @@ pub fn run<S: Source, O: Sink, E: Sink>(
         (map string_bytes words.now) (S.held source.old) result.answers
         (O.written out.old) (O.written out.new) }
     ensures cut_lines { AskSolving (map string_bytes words.now) → result.status ≡ 5 → IsLineCutOff
-        (map string_bytes words.now) (S.held source.old) result.answers
+        (map string_bytes words.now) (S.held source.old) (S.faults source.old) (S.faults source.new) result.answers
         (E.written err.old) (E.written err.new) }
 
     // 6: out of memory
@@ -129,8 +131,7 @@ fn without_input<E: Sink>(err: &mut E, fault: InputFault) -> Ended
     ensures written { result.status ≢ 5 → (result.status ≡ fault_status fault) × Appends (E.written err.old)
         (E.written err.new) (fault_line fault) }
     ensures write { result.status ≡ 5 → Rose (E.faults err.old) (E.faults err.new) }
-    ensures begun { result.status ≡ 5 → BeginsLine (λ line. line ≡ fault_line fault) (E.written err.old)
-        (E.written err.new) }
+    ensures begun { result.status ≡ 5 → AppendsProperPrefix (E.written err.old) (E.written err.new) (fault_line fault) }
 {
     match fault {
         InputFault::Words => unanswered(err, b"refused: words\n", 3),

@@ -6,7 +6,7 @@ use Rattle.sy_scope_causes.specs.declared.cause.Refused.{Refused}
 use Rattle.sy_reply.specs.Lines.{refusal_line}
 use Rattle.sy_scope_steps.specs.Files.{file_read}
 use Rattle.sy_scope_names.specs.Jobs.{Wish, wished}
-use Rattle.sygus_replies.specs.Texts.{texts, answer_lines, memory_line}
+use Rattle.sygus_replies.specs.Texts.{texts, answer_lines}
 use Rattle.sygus_replies.specs.Answered.{WritesMost}
 use Rattle.sygus_answers.specs.declared.answers.Answers.{Answers}
 use Rattle.sygus_answers.specs.declared.answers.Answers.TheVariants.{Idle}
@@ -27,9 +27,9 @@ pub record RefusesFile (file : List ℕ) (err err' : Option (List ℕ)) : Type 0
   pub reads : wished (file_read file) ≡ Err refused
   pub line : Appends err err' (refusal_line file refused)
 
--- a line with which a run ends that answers nothing: that memory was wanted, or the first fault of the file
+-- the line that tells its first fault
 abbrev pub IsRefusalLine : List ℕ → List ℕ → Type 0
-IsRefusalLine file line = (line ≡ memory_line) ⊎ ((refused : Refused) × (wished (file_read file) ≡ Err refused) × (line ≡ refusal_line file refused))
+IsRefusalLine file line = (refused : Refused) × (wished (file_read file) ≡ Err refused) × (line ≡ refusal_line file refused)
 
 -- each problem has its answer, and texts, with proofs where these are asked for, and lines of all are written
 pub record WritesAll (proofs : Bool) (answers : Answers) (out out' err err' : Option (List ℕ)) (wish : Wish) : Type 0 where

@@ -1,7 +1,8 @@
 // Judging replies in order.
-ghost use Rattle.std.specs.Prelude.{◌≡◌, ◌≢◌, ◌≤◌, ◌<◌, ◌^◌, ◌⊎◌, ℕ, length, take, All, IfOk, OnErr};
+ghost use Rattle.std.specs.Prelude.{◌≡◌, ◌≢◌, ◌≤◌, ◌<◌, ◌^◌, ◌⊎◌, length, All, IfOk, OnErr};
 ghost use Rattle.std.specs.Io.KnownBytes.{Appends};
 ghost use Rattle.sy_io.specs.Causes.{Rose};
+ghost use Rattle.sy_io.specs.Sink.{AppendsProperPrefix};
 ghost use Rattle.sy_grammar_base.specs.Fits.{ProblemFits};
 ghost use Rattle.sy_reply.specs.Fitting.{IsStatedFor, AreStatedFor};
 ghost use Rattle.sygus_verdicts.specs.Clauses.{IsJudgedFor, AreJudgedFor, JudgesNext, verdict_for, verdicts_for};
@@ -63,8 +64,7 @@ pub fn judge_all<T: Theory, J: Judge<T>, O: Sink, E: Sink>(
         (E.faults err.new) }
     ensures cut_off { result.status ≡ 5 → WritesMostLines claims.now.titles (verdicts_for J.Judge result.answers)
         (O.written out.old) (O.written out.new) }
-    ensures cut_line { result.status ≡ 5 → (count : ℕ) × Appends (E.written err.old) (E.written err.new)
-        (take count memory_line) }
+    ensures cut_line { result.status ≡ 5 → AppendsProperPrefix (E.written err.old) (E.written err.new) memory_line }
 
     // 6: out of memory
     ensures memory { result.status ≡ 6 → Appends (O.written out.old) (O.written out.new)
@@ -90,8 +90,7 @@ pub fn judge_all<T: Theory, J: Judge<T>, O: Sink, E: Sink>(
 fn out_of_memory<E: Sink>(err: &mut E) -> u8
     ensures written { result ≢ 5 → (result ≡ 6) × Appends (E.written err.old) (E.written err.new) memory_line }
     ensures fault { result ≡ 5 → Rose (E.faults err.old) (E.faults err.new) }
-    ensures begun { result ≡ 5 → (count : ℕ) × Appends (E.written err.old) (E.written err.new)
-        (take count memory_line) }
+    ensures begun { result ≡ 5 → AppendsProperPrefix (E.written err.old) (E.written err.new) memory_line }
 {
     match write_whole(err, b"want of memory\n") {
         Ok(()) => 6,

@@ -1,9 +1,9 @@
-use Rattle.std.proofs.Common.{◌≡◌, ◌∙◌, arith}
+use Rattle.std.proofs.Common.{◌≡◌, ◌∙◌, arith, inl, inr}
 use Rattle.sy_scope.specs.Read.{wish_in}
 use Rattle.sy_scope.specs.Fronts.{front}
 use Rattle.sygus_answers.proofs.Asked.{few_questions}
 use Rattle.sygus_judged.proofs.Judged.{judges_file, stops_file, refuses_file, begins_file, not_two, widened}
-use Rattle.sygus_judged.specs.Ends.{wants, refuses_front}
+use Rattle.sygus_judged.specs.Ends.{refuses_front}
 use Rattle.sygus_judged.proofs.file.judge_file.Goals as goal
 
 pub judge_job-requires-clause-few : goal.judge_job-requires-clause-few
@@ -56,27 +56,24 @@ returns-in-Ok-clause-memory_line g c is = c.judge_job.ensures.ends.memory_line i
 pub returns-in-Ok-clause-cut_line : goal.returns-in-Ok-clause-cut_line
 returns-in-Ok-clause-cut_line g c is =
     let ends = rw c.in-Ok.ensures.start at c.judge_job.ensures.ends in
-    begins_file c.args.settings.now c.args.file.now (wish_in c.in-Ok.job) c.in-Ok.ensures.read _ _ (ends.cut_line is)
+    begins_file c.args.settings.now c.args.file.now (wish_in c.in-Ok.job) c.in-Ok.ensures.read _ _ _ (ends.cut_line is)
 
 pub returns-in-Ok-refusal_text-clause-cut_line : goal.returns-in-Ok-refusal_text-clause-cut_line
 returns-in-Ok-refusal_text-clause-cut_line g c is =
-    let begun = c.unanswered.ensures.begun is (λ e. omega (arith, e)) in
-    record {
-      line = begun.line;
-      is = refuses_front c.in-Err-Refused.refused (rw c.in-Err-Refused.field-0-is at c.in-Err-Refused.ensures.read) (begun.is ∙ c.as_slice.ensures ∙ c.in-Ok-refusal_text.ensures);
-      count = begun.count;
-      begun = begun.begun;
-    }
+    inl (
+      c.unanswered.ensures.answers,
+      record {
+        line = _;
+        is = refuses_front c.in-Err-Refused.refused (rw c.in-Err-Refused.field-0-is at c.in-Err-Refused.ensures.read) (c.as_slice.ensures ∙ c.in-Ok-refusal_text.ensures);
+        begun = c.unanswered.ensures.begun is (λ e. omega (arith, e));
+      },
+    )
 
 pub returns-in-Err-clause-cut_line : goal.returns-in-Err-clause-cut_line
-returns-in-Err-clause-cut_line g c is =
-    let begun = c.unanswered-in-Err.ensures.begun is (λ e. omega (arith, e)) in
-    record { line = begun.line; is = wants begun.is; count = begun.count; begun = begun.begun }
+returns-in-Err-clause-cut_line g c is = inr (c.unanswered-in-Err.ensures.begun is (λ e. omega (arith, e)))
 
 pub returns-in-Err-Want-clause-cut_line : goal.returns-in-Err-Want-clause-cut_line
-returns-in-Err-Want-clause-cut_line g c is =
-    let begun = c.unanswered-in-Err-Want.ensures.begun is (λ e. omega (arith, e)) in
-    record { line = begun.line; is = wants begun.is; count = begun.count; begun = begun.begun }
+returns-in-Err-Want-clause-cut_line g c is = inr (c.unanswered-in-Err-Want.ensures.begun is (λ e. omega (arith, e)))
 
 pub returns-in-Ok-refusal_text-clause-front_refused : goal.returns-in-Ok-refusal_text-clause-front_refused
 returns-in-Ok-refusal_text-clause-front_refused g c is =

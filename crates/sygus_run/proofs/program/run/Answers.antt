@@ -80,7 +80,7 @@ returns-in-Ok-File-clause-cut_off g c none is =
 pub returns-in-Ok-File-clause-cut_lines : goal.returns-in-Ok-File-clause-cut_lines
 returns-in-Ok-File-clause-cut_lines g c none is =
     let asked = rw c.in-Ok-File.field-0-is at c.in-Ok-File.ensures.ok in
-    ends.cut_lines _ _ c.in-Ok-File.settings _ asked _ _ _ (rw c.as_slice.ensures at c.answer_file.ensures.cut_lines is)
+    ends.cut_lines _ _ c.in-Ok-File.settings _ asked _ _ _ _ _ (rw c.as_slice.ensures at c.answer_file.ensures.cut_lines is)
 
 pub returns-in-Ok-File-clause-memory : goal.returns-in-Ok-File-clause-memory
 returns-in-Ok-File-clause-memory g c none is =
@@ -128,7 +128,7 @@ returns-in-Ok-Judge-clause-unread g c number limits drill =
 pub returns-in-Ok-Judge-clause-judged : goal.returns-in-Ok-Judge-clause-judged
 returns-in-Ok-Judge-clause-judged g c _ =
     let asked = rw c.in-Ok-Judge.field-0-is at c.in-Ok-Judge.ensures.ok in
-    ends.ends_judged _ _ c.in-Ok-Judge.settings _ asked _ _ _ _ _ _ c.judge_file.ensures.status
+    ends.ends_judged _ _ c.in-Ok-Judge.settings _ asked _ _ _ _ _ _ _ _ c.judge_file.ensures.status
     (rw c.as_slice-in-Ok-Judge.ensures at c.judge_file.ensures.judged) (rw c.as_slice-in-Ok-Judge.ensures at c.judge_file.ensures.front_refused)
     (rw c.as_slice-in-Ok-Judge.ensures at c.judge_file.ensures.reply_refused)
     (λ is. (c.judge_file.ensures.idle is, ap g.O.Sink.written (c.judge_file.ensures.silent is)))

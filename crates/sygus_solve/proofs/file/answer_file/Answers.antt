@@ -1,6 +1,6 @@
 use Rattle.std.proofs.Common.{inl, inr, ◌≡◌, ◌∙◌, arith}
 use Rattle.sy_scope.specs.Read.{wish_in}
-use Rattle.sygus_answers.proofs.Lines.{idle_line}
+use Rattle.sygus_answers.proofs.Lines.{idle_cut, idle_line}
 use Rattle.sygus_answers.proofs.Asked.{questions_titled, few_questions}
 use Rattle.sygus_solve.proofs.file.answer_file.Goals as goal
 
@@ -37,26 +37,22 @@ returns-in-Ok-clause-cut_lines g c is = inr (c.answer.ensures.cut_lines is)
 
 pub returns-in-Ok-refusal_text-clause-cut_lines : goal.returns-in-Ok-refusal_text-clause-cut_lines
 returns-in-Ok-refusal_text-clause-cut_lines g c is =
-    let begun = c.unanswered.ensures.begun is (λ e. omega (arith, e)) in
     inl (
       c.unanswered.ensures.answers,
       record {
-        line = begun.line;
-        is = inr (c.in-Err-Refused.refused, (rw c.in-Err-Refused.field-0-is at c.in-Err-Refused.ensures.read, begun.is ∙ c.as_slice.ensures ∙ c.in-Ok-refusal_text.ensures));
-        count = begun.count;
-        begun = begun.begun;
+        line = _;
+        is = (c.in-Err-Refused.refused, (rw c.in-Err-Refused.field-0-is at c.in-Err-Refused.ensures.read), c.as_slice.ensures ∙ c.in-Ok-refusal_text.ensures);
+        begun = c.unanswered.ensures.begun is (λ e. omega (arith, e));
       },
     )
 
 pub returns-in-Err-clause-cut_lines : goal.returns-in-Err-clause-cut_lines
 returns-in-Err-clause-cut_lines g c is =
-    let begun = c.unanswered-in-Err.ensures.begun is (λ e. omega (arith, e)) in
-    inl (c.unanswered-in-Err.ensures.answers, record { line = begun.line; is = inl begun.is; count = begun.count; begun = begun.begun })
+    inr (idle_cut _ _ _ c.unanswered-in-Err.ensures.answers (c.unanswered-in-Err.ensures.begun is (λ e. omega (arith, e))))
 
 pub returns-in-Err-Want-clause-cut_lines : goal.returns-in-Err-Want-clause-cut_lines
 returns-in-Err-Want-clause-cut_lines g c is =
-    let begun = c.unanswered-in-Err-Want.ensures.begun is (λ e. omega (arith, e)) in
-    inl (c.unanswered-in-Err-Want.ensures.answers, record { line = begun.line; is = inl begun.is; count = begun.count; begun = begun.begun })
+    inr (idle_cut _ _ _ c.unanswered-in-Err-Want.ensures.answers (c.unanswered-in-Err-Want.ensures.begun is (λ e. omega (arith, e))))
 
 pub returns-in-Ok-clause-memory : goal.returns-in-Ok-clause-memory
 returns-in-Ok-clause-memory g c is = inr (record {

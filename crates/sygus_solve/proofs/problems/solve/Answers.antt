@@ -2,7 +2,7 @@ use Rattle.std.proofs.Common.{◌≡◌, ◌<◌, ◌∷◌, [], inl, inr, lengt
 use Rattle.std.proofs.lemmas.List.{length-map}
 use Rattle.sy_io.proofs.Streams.{appended_more}
 use Rattle.sy_grammar_base.specs.Questions.{question_of}
-use Rattle.sygus_replies.specs.Replies.{reply_for, replies_for, shown_for, all_shown_for}
+use Rattle.sygus_replies.specs.Replies.{reply_for, shown_for, all_shown_for}
 use Rattle.sygus_replies.proofs.Steps.{appended_nothing, texts-none, lines-none, right-none, replies-more, texts-more, right-more, lines-more, most-more, most-all, fails-more, fails-all, question_at, question_count, question_answerable}
 use Rattle.sygus_answers.specs.RightAnswers.{RightOutcomeFor}
 use Rattle.sygus_answers.proofs.RuledOut.{not_five, not_six, five_not_small, five_not_none, five_not_one, five_not_six, six_not_small, six_not_none, six_not_one}
@@ -90,7 +90,7 @@ pub returns-in-Err-Memory-clause-cut_lines : goal.returns-in-Err-Memory-clause-c
 returns-in-Err-Memory-clause-cut_lines g c is =
     let begun = c.last-status.ensures.begun is (λ h. cc) in
     rw (c.in-Err-Memory.ensures.unchanged (cc))
-    (fails-all _ _ _ _ begun.0 c.loop-problem.invariant.lined (rw (c.in-Err-Memory.ensures.unlined (cc)) at begun.1))
+    (fails-all _ _ _ _ begun.count c.loop-problem.invariant.lined (rw (c.in-Err-Memory.ensures.unlined (cc)) at begun.prefix))
 
 pub returns-in-Err-Memory-clause-cut_off : goal.returns-in-Err-Memory-clause-cut_off
 returns-in-Err-Memory-clause-cut_off g c _ =

@@ -37,7 +37,7 @@ pub returns-in_default-clause-cut_line : goal.returns-in_default-clause-cut_line
 returns-in_default-clause-cut_line g c is = rw c.loop-place.invariant.quiet at (c.out_of_memory-status.ensures.begun is)
 
 pub returns-in-Err-clause-cut_line : goal.returns-in-Err-clause-cut_line
-returns-in-Err-clause-cut_line g c _ = (0, rw c.loop-place.invariant.quiet (appended_nothing _))
+returns-in-Err-clause-cut_line g c _ = record { count = 0; fewer = omega arith; prefix = rw c.loop-place.invariant.quiet (appended_nothing _) }
 
 pub returns-in-Err-clause-right : goal.returns-in-Err-clause-right
 returns-in-Err-clause-right g c = right-next _ _ _ _ _ _ _ c.in-Ok.ensures.ok c.loop-place.invariant.right

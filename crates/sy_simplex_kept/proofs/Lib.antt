@@ -1,0 +1,15 @@
+pub mod Again
+pub mod Closing
+pub mod Conclusions
+pub mod Free
+pub mod Going
+pub mod Halts
+pub mod Holding
+pub mod Joins
+pub mod Parts
+pub mod Putting
+pub mod Quotients
+pub mod Seen
+pub mod Sums
+pub mod Told
+pub mod Unclear
