@@ -1,4 +1,5 @@
 // Literals that the grammar has.
+ghost use Rattle.std.specs.Prelude.{◌<◌, length, IfOk, IfSome};
 ghost use Rattle.sy_grammar_base.specs.Fits.{ProblemFits};
 
 use crate::atoms::Atoms;
@@ -17,6 +18,7 @@ impl Atoms {
         program: bool,
     ) -> Result<Option<usize>, Want>
         requires { ProblemFits T.Theory setting.now.problem.now }
+        ensures { IfOk result (λ found. IfSome found (λ place. place < length self.new.table.literals.items)) }
     {
         let Some(least) = sum.least(kind) else {
             return Ok(None);
@@ -29,8 +31,10 @@ impl Atoms {
             return Ok(None);
         };
         let traits = Traits::new(size, program, kind == Kind::Unequal);
-        self.table
-            .add(self.sides.written(), Some((kind, least)), traits)
+        let found = self
+            .table
+            .add(self.sides.written(), Some((kind, least)), traits)?;
+        Ok(found)
     }
 
     /// Writes the comparison of the sum with 0, and answers its size; `None` where the grammar hasn't it.

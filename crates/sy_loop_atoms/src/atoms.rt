@@ -1,5 +1,7 @@
 // Literals of the one function's arguments.
+ghost use Rattle.std.specs.Prelude.{◌≡◌, ◌<◌, ◌-◌, length, slice_get, IfOk, IfSome};
 ghost use Rattle.sy_grammar_base.specs.Fits.{ProblemFits};
+ghost use Rattle.sy_loop_atoms.specs.Traits.{traits_of};
 
 use crate::setting::{Setting, Shape};
 use crate::statements::Statements;
@@ -47,12 +49,16 @@ impl Atoms {
     }
 
     /// How many literals there are.
-    pub fn len(&self) -> usize {
+    pub fn len(&self) -> usize
+        ensures { result ≡ length self.now.table.literals.items }
+    {
         self.table.literals().len()
     }
 
     /// What the cost of the literal is made of.
-    pub fn traits(&self, literal: usize) -> Traits {
+    pub fn traits(&self, literal: usize) -> Traits
+        ensures { result ≡ traits_of (slice_get self.now.table.literals.items literal) }
+    {
         match self.table.literals().get(literal) {
             Some(found) => found.traits,
             None => Traits::new(u32::MAX, false, false),
@@ -60,12 +66,16 @@ impl Atoms {
     }
 
     /// The problem's own clauses: each of two to four literals.
-    pub fn clauses(&self) -> &[Vec<usize>] {
+    pub fn clauses(&self) -> &[Vec<usize>]
+        ensures { result.now ≡ self.now.given.clauses.items }
+    {
         self.given.clauses.as_slice()
     }
 
     /// Formulas to begin with, as clauses of literals: what the function has to imply, and what has to imply it.
-    pub fn goals(&self) -> &[Vec<Vec<usize>>] {
+    pub fn goals(&self) -> &[Vec<Vec<usize>>]
+        ensures { result.now ≡ self.now.given.goals.items }
+    {
         self.given.goals.as_slice()
     }
 
@@ -75,7 +85,9 @@ impl Atoms {
         alloc: Global,
         tuple: &[Value<T::Num>],
         from: usize,
-    ) -> Result<Vec<bool>, Want> {
+    ) -> Result<Vec<bool>, Want>
+        ensures { IfOk result (λ truths. length truths.items ≡ length self.now.table.literals.items - from) }
+    {
         let mut numbers = Vec::with_capacity(alloc, tuple.len())?;
         for value in tuple {
             numbers.push(number_of::<T>(value))?;
@@ -105,9 +117,13 @@ impl Atoms {
         second: usize,
     ) -> Result<Option<usize>, Want>
         requires { ProblemFits T.Theory setting.now.problem.now }
+        ensures { IfOk result (λ found. IfSome found (λ place. place < length self.new.table.literals.items)) }
     {
         match self.table.bound_between(first, second) {
-            Some(sum) => self.add_form(setting, Kind::Equal, &sum, false),
+            Some(sum) => {
+                let found = self.add_form(setting, Kind::Equal, &sum, false)?;
+                Ok(found)
+            }
             None => Ok(None),
         }
     }

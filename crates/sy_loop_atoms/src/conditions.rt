@@ -1,4 +1,7 @@
 // What statements say of labels of points, at values of the variables.
+ghost use Rattle.std.specs.Prelude.{ℕ, ◌<◌, All, IfOk, OnOk, length};
+ghost use Rattle.sy_loop_atoms.specs.Places.{AreBelow, Grows};
+
 use crate::opening::Opening;
 use crate::statements::Statements;
 use crate::values::value_of;
@@ -24,7 +27,10 @@ impl Statements {
         &self,
         values: &[Value<T::Num>],
         tuples: &mut Vec<Values<T>>,
-    ) -> Result<Vec<Vec<(usize, bool)>>, Want> {
+    ) -> Result<Vec<Vec<(usize, bool)>>, Want>
+        ensures below { IfOk result (λ conditions. AreBelow (length tuples.new.items) conditions.items) }
+        ensures grown { Grows tuples.old.items tuples.new.items }
+    {
         let mut conditions: Vec<Vec<(usize, bool)>> = Vec::new(self.alloc);
         for statement in &self.items {
             add_conditions::<T>(self.alloc, statement, values, tuples, &mut conditions)?;
@@ -40,7 +46,11 @@ fn add_conditions<T: Theory>(
     values: &[Value<T::Num>],
     tuples: &mut Vec<Values<T>>,
     conditions: &mut Vec<Vec<(usize, bool)>>,
-) -> Result<(), Want> {
+) -> Result<(), Want>
+    ensures below { OnOk result (AreBelow (length tuples.old.items) conditions.old.items →
+        AreBelow (length tuples.new.items) conditions.new.items) }
+    ensures grown { Grows tuples.old.items tuples.new.items }
+{
     let mut asked = Vec::new(alloc);
     let mut which = Vec::new(alloc);
     for call in &statement.calls {
@@ -54,16 +64,44 @@ fn add_conditions<T: Theory>(
         return Ok(());
     }
     resolve(&mut clauses)?;
-    let mut places = Vec::with_capacity(alloc, asked.len())?;
-    for tuple in asked {
-        places.push(place_of::<T>(tuple, tuples)?)?;
-    }
-    for clause in &clauses {
-        if !is_implied(clauses.as_slice(), clause) {
-            conditions.push(condition_of(alloc, clause, places.as_slice())?)?;
+    let places = places_of::<T>(alloc, asked, tuples)?;
+    add_clauses(alloc, clauses.as_slice(), places.as_slice(), conditions)
+}
+
+/// Adds the clauses that no other implies, over the places of their points.
+fn add_clauses(
+    alloc: Global,
+    clauses: &[Clause],
+    places: &[usize],
+    conditions: &mut Vec<Vec<(usize, bool)>>,
+) -> Result<(), Want>
+    ensures { OnOk result ((count : ℕ) → All (λ place. place < count) places.now →
+        AreBelow count conditions.old.items → AreBelow count conditions.new.items) }
+{
+    for clause in clauses {
+        if !is_implied(clauses, clause) {
+            let condition = condition_of(alloc, clause, places)?;
+            conditions.push(condition)?;
         }
     }
     Ok(())
+}
+
+/// Where the tuples stand among others; those that don't are put behind.
+fn places_of<T: Theory>(
+    alloc: Global,
+    asked: Vec<Values<T>>,
+    tuples: &mut Vec<Values<T>>,
+) -> Result<Vec<usize>, Want>
+    ensures below { IfOk result (λ places. All (λ place. place < length tuples.new.items) places.items) }
+    ensures grown { Grows tuples.old.items tuples.new.items }
+{
+    let mut places = Vec::with_capacity(alloc, asked.len())?;
+    for tuple in asked {
+        let place = place_of::<T>(tuple, tuples)?;
+        places.push(place)?;
+    }
+    Ok(places)
 }
 
 /// Where the values of the spans stand among the tuples; they are put behind where they don't. `None` where one isn't
@@ -87,7 +125,10 @@ fn place_at<T: Theory>(
 }
 
 /// Where the tuple stands; it is put behind where it doesn't.
-fn place_of<T: Theory>(tuple: Values<T>, tuples: &mut Vec<Values<T>>) -> Result<usize, Want> {
+fn place_of<T: Theory>(tuple: Values<T>, tuples: &mut Vec<Values<T>>) -> Result<usize, Want>
+    ensures below { IfOk result (λ place. place < length tuples.new.items) }
+    ensures grown { Grows tuples.old.items tuples.new.items }
+{
     for place in 0..tuples.len() {
         if same_values::<T>(tuples[place].as_slice(), tuple.as_slice()) {
             return Ok(place);
@@ -182,12 +223,15 @@ fn is_implied(clauses: &[Clause], clause: &Clause) -> bool {
 fn condition_of(
     alloc: Global,
     clause: &Clause,
-    asked: &[usize],
-) -> Result<Vec<(usize, bool)>, Want> {
+    places: &[usize],
+) -> Result<Vec<(usize, bool)>, Want>
+    ensures { IfOk result (λ condition. (count : ℕ) → All (λ place. place < count) places.now →
+        All (λ label. label.0 < count) condition.items) }
+{
     let mut condition = Vec::new(alloc);
-    for (number, place) in asked.iter().enumerate() {
+    for number in 0..places.len() {
         if clause.points & bit(number) != 0 {
-            condition.push((*place, clause.inside & bit(number) != 0))?;
+            condition.push((places[number], clause.inside & bit(number) != 0))?;
         }
     }
     Ok(condition)

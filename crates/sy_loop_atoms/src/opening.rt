@@ -1,4 +1,6 @@
 // Terms as tokens, with their definitions and bindings written out.
+ghost use Rattle.std.specs.Prelude.{◌≡◌, length, IfOk};
+
 use std::alloc::Global;
 use sy_grammar_base::Problem;
 use sy_grammar_sizes::number_of;
@@ -167,18 +169,24 @@ fn open_call<T: Theory>(
 
 impl Opening {
     /// The tokens of the term.
-    pub fn tokens(&self) -> &[Token] {
+    pub fn tokens(&self) -> &[Token]
+        ensures { result.now ≡ self.now.tokens.items }
+    {
         self.tokens.as_slice()
     }
 
     /// The calls of the function to be found.
-    pub fn calls(&self) -> &[Vec<Span>] {
+    pub fn calls(&self) -> &[Vec<Span>]
+        ensures { result.now ≡ self.now.calls.items }
+    {
         self.calls.as_slice()
     }
 
     /// The term with its variables named as the arguments of the call that they are; its one call is the truth, where
     /// there is one.
-    pub fn named_by(&self, call: &[Span], truth: Option<bool>) -> Result<Vec<Token>, Want> {
+    pub fn named_by(&self, call: &[Span], truth: Option<bool>) -> Result<Vec<Token>, Want>
+        ensures { IfOk result (λ named. length named.items ≡ length self.now.tokens.items) }
+    {
         let mut named = Vec::with_capacity(self.alloc, self.tokens.len())?;
         for token in &self.tokens {
             let put = match (token, truth) {

@@ -1,4 +1,7 @@
 // What constraints state of the one function to be found.
+ghost use Rattle.std.specs.Prelude.{◌≡◌};
+ghost use Rattle.sy_loop_atoms.specs.Places.{tie};
+
 use crate::opening::{Opening, opened};
 use std::alloc::Global;
 use sy_grammar_base::Problem;
@@ -33,12 +36,16 @@ impl Statements {
     }
 
     /// What each states.
-    pub fn items(&self) -> &[Opening] {
+    pub fn items(&self) -> &[Opening]
+        ensures { result.now ≡ self.now.items.items }
+    {
         self.items.as_slice()
     }
 
     /// Whether one of them calls the function more than once, and so ties the labels of several points together.
-    pub fn ties(&self) -> bool {
+    pub fn ties(&self) -> bool
+        ensures { result ≡ tie self.now.items.items }
+    {
         for statement in &self.items {
             if statement.calls.len() > 1 {
                 return true;
@@ -48,7 +55,9 @@ impl Statements {
     }
 
     /// How many nodes they have.
-    pub fn nodes(&self) -> u64 {
+    pub fn nodes(&self) -> u64
+        ensures { result ≡ self.now.nodes }
+    {
         self.nodes
     }
 }

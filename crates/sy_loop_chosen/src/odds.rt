@@ -1,4 +1,5 @@
 // Whether constraints want two values at one tuple.
+ghost use Rattle.std.specs.Prelude.{◌≡◌, IfOk, IsTrue, length};
 ghost use Rattle.sy_grammar_base.specs.Fits.{ProblemFits};
 ghost use Rattle.sy_loop_bodies.specs.Clauses.{AreAssignedFor};
 
@@ -13,6 +14,7 @@ use sy_terms::{Theory, Values, Want, same_value, same_values};
 pub fn are_at_odds<T: Theory>(task: &Task<T>, assignments: &[Values<T>]) -> Result<bool, Want>
     requires problem { ProblemFits T.Theory task.now.problem.now }
     requires assigned { AreAssignedFor T.Theory task.now.problem.now assignments.now }
+    ensures { IfOk result (λ at_odds. IsTrue at_odds → length task.now.problem.now.assumptions ≡ 0) }
 {
     if task.problem.assumptions.len() > 0 {
         return Ok(false);
